@@ -1,0 +1,23 @@
+-- Laws of ordered grounds. Assumes nothing.
+use mathlib.Core.Path.{_≡_, refl}
+use mathlib.Core.Bool.{Bool, true, false, cond, _||_, true≢false}
+use Prim.Native.Nat.{ℕ, zero, suc}
+use native.Mathlib.Omega.{arith}
+use Rattle.apportion.specs.Grounds.{accepted}
+
+-- where no ground holds, the first does not, and none of the others does. `rest` is the number that the others give
+pub first-none : (n : ℕ) (holds : Bool) (rest : ℕ) → cond holds (suc n) rest ≡ 0 → (holds ≡ false) × (rest ≡ 0)
+first-none n true rest e = let z : ⊥ = omega arith in absurd z
+first-none n false rest e = (refl, e)
+
+pub or-none : (a b : Bool) → a || b ≡ false → (a ≡ false) × (b ≡ false)
+or-none true b e = absurd (true≢false e)
+or-none false b e = (refl, e)
+
+-- an accepted call leaves the new, a refused one the old
+pub accepted-new : {A : Type 0} (n : ℕ) (new old : A) → n ≡ 0 → accepted n new old ≡ new
+accepted-new n new old e = rw e
+
+pub refused-old : {A : Type 0} (n : ℕ) (new old : A) → (n ≡ 0 → ⊥) → accepted n new old ≡ old
+refused-old zero new old ne = absurd (ne refl)
+refused-old (suc n) new old ne = refl

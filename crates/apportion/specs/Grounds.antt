@@ -1,0 +1,19 @@
+-- "Grounds, in checking order": a call answers the number of the first ground whose condition holds, or 0.
+-- Assumes nothing.
+use Prim.Native.Nat.{ℕ, zero, suc}
+use mathlib.Core.Bool.{Bool, cond}
+use mathlib.Core.List.{List, [], _∷_}
+
+-- a refusal number and its condition
+abbrev pub Ground : Type 0
+Ground = ℕ × Bool
+
+-- the number of the first ground whose condition holds; 0, accepted, where none does
+abbrev pub firstOf : List Ground → ℕ
+firstOf [] = 0
+firstOf (g ∷ gs) = cond (g .1) (g .0) (firstOf gs)
+
+-- what an accepted call (number 0) leaves, and what a refused one leaves
+abbrev pub accepted : {A : Type 0} → ℕ → A → A → A
+accepted zero new old = new
+accepted (suc n) new old = old

@@ -1,0 +1,8 @@
+-- "A comparison with a fraction .. is made over whole numbers, both sides multiplied by its denominators, which are
+-- above 0 wherever it is made." Assumes nothing.
+use Prim.Native.Nat.{ℕ, _+_, _*_, _<_}
+
+-- the number x is less than `units` from the fraction n / d, both ways
+pub record Within (units x n d : ℕ) : Type 0 where
+  pub above : x * d < n + units * d
+  pub below : n < x * d + units * d

@@ -1,0 +1,57 @@
+-- `replay::dividing::divide` meets its contract. Assumes nothing.
+use native.Mathlib.Omega.{arith}
+use mathlib.Core.Path.{sym, _∙_}
+use borrow.Author.Needs.{needs}
+use lib.Seq.{length-take-le}
+use Rattle.replay.proofs.Runs.{divide-good, divide-bad}
+use Rattle.replay.proofs.dividing.divide.Statement.{statement}
+use Rattle.replay.proofs.dividing.divide.Tie as tie
+
+bad-requires : tie.Need-bad-requires
+bad-requires c κs = search needs
+
+returns : tie.Need-returns
+returns c =
+    let long = c .before in
+    let start = long .before .before in
+    c .bad .ensures _ _ ∙ divide-bad (start .args .pool) (start .args .size) _ (long .if1 .taken)
+
+least-requires : tie.Need-least-requires
+least-requires c κs = search needs
+
+slice-aggregate-answer : tie.Need-slice-aggregate-answer
+slice-aggregate-answer c = sym (length-take-le _ _ (omega arith))
+
+array-borrow-prefix-shares : tie.Need-array-borrow-prefix-shares
+array-borrow-prefix-shares c = search needs
+
+slice-aggregate-answer-2 : tie.Need-slice-aggregate-answer-2
+slice-aggregate-answer-2 c = sym (length-take-le _ _ (omega arith))
+
+answer-requires : tie.Need-answer-requires
+answer-requires c κs = search needs
+
+returns-2 : tie.Need-returns-2
+returns-2 c =
+    let put = c .before in
+    let counted = put .before .before .before .before .before in
+    let fits = counted .before in
+    let args = fits .before .before .args in
+    divide-good (args .pool) (args .size) (counted .least .result) (args .weights .now) (args .buffer .now) _ (args .state)
+    (put .answer .result)
+    (fits .if1 .left)
+    (counted .least .ensures)
+    (put .answer .ensures .1)
+
+pub divide-spec : {M : Type 1} → statement M
+divide-spec =
+    tie.close
+    (tie.spec
+    bad-requires
+    returns
+    least-requires
+    slice-aggregate-answer
+    array-borrow-prefix-shares
+    slice-aggregate-answer-2
+    answer-requires
+    returns-2)

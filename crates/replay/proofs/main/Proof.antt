@@ -1,0 +1,82 @@
+-- `replay::main` is safe and ends. The loop's invariant: the chunk keeps its size, and the records of the turns that are
+-- left can be numbered. Assumes nothing.
+use Prim.Native.Nat.{_+_, _*_, _<_, _^_}
+use mathlib.Core.Path.{_≡_}
+use lib.ListN.{length}
+use borrow.Author.Needs.{needs}
+use Rattle.replay.proofs.main.Statement.{statement}
+use Rattle.replay.proofs.main.Tie as tie
+
+abbrev Inv-loop : tie.InvT-loop
+Inv-loop chunk₀ buffer₀ weights₀ state₀ passed₀ turns₀ chunk buffer weights state passed turns =
+    (length chunk ≡ 65_536) × (passed + 65_536 * turns < 2 ^ 64)
+
+abbrev μ-loop : tie.MeasureT-loop
+μ-loop chunk₀ buffer₀ weights₀ state₀ passed₀ turns₀ chunk buffer weights state passed turns = turns
+
+large-buffer-requires : tie.Need-large-buffer-requires Inv-loop μ-loop
+large-buffer-requires c κs = search needs
+
+large-buffer-requires-2 : tie.Need-large-buffer-requires-2 Inv-loop μ-loop
+large-buffer-requires-2 c κs = search needs
+
+first-requires : tie.Need-first-requires Inv-loop μ-loop
+first-requires c κs = search needs
+
+loop-holds : tie.Need-loop-holds Inv-loop μ-loop
+loop-holds c = search needs
+
+sub-turns : tie.Need-sub-turns Inv-loop μ-loop
+sub-turns c = search needs
+
+slice-aggregate-read-full : tie.Need-slice-aggregate-read-full Inv-loop μ-loop
+slice-aggregate-read-full c = search needs
+
+read-full-requires : tie.Need-read-full-requires Inv-loop μ-loop
+read-full-requires c κs = search needs
+
+array-share-prefix-chunk : tie.Need-array-share-prefix-chunk Inv-loop μ-loop
+array-share-prefix-chunk c = search needs
+
+slice-aggregate-run : tie.Need-slice-aggregate-run Inv-loop μ-loop
+slice-aggregate-run c = search needs
+
+run-requires : tie.Need-run-requires Inv-loop μ-loop
+run-requires c κs = search needs
+
+add-passed : tie.Need-add-passed Inv-loop μ-loop
+add-passed c = search needs
+
+loop-less : tie.Need-loop-less Inv-loop μ-loop
+loop-less c = search needs
+
+loop-again : tie.Need-loop-again Inv-loop μ-loop
+loop-again c = search needs
+
+flush-requires : tie.Need-flush-requires Inv-loop μ-loop
+flush-requires c κs = search needs
+
+returns : tie.Need-returns Inv-loop μ-loop
+returns c = search needs
+
+pub main-spec : {M : Type 1} → statement M
+main-spec =
+    tie.close
+    (tie.spec
+    Inv-loop
+    μ-loop
+    large-buffer-requires
+    large-buffer-requires-2
+    first-requires
+    loop-holds
+    sub-turns
+    slice-aggregate-read-full
+    read-full-requires
+    array-share-prefix-chunk
+    slice-aggregate-run
+    run-requires
+    add-passed
+    loop-less
+    loop-again
+    flush-requires
+    returns)

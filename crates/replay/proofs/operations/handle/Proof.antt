@@ -1,0 +1,28 @@
+-- `replay::operations::handle` meets its contract. Assumes nothing.
+use borrow.Author.Needs.{needs}
+use borrow.Author.Tests.{lt-ltb, le-ltb}
+use Rattle.replay.specs.Replay.{handled}
+use Rattle.replay.proofs.operations.handle.Statement.{statement}
+use Rattle.replay.proofs.operations.handle.Tie as tie
+
+bad-requires : tie.Need-bad-requires
+bad-requires c κs = search needs
+
+returns : tie.Need-returns
+unfolding handled
+returns c = rw (lt-ltb _ 64 (c .before .if1 .taken)) (c .bad .ensures _ _)
+
+words-requires : tie.Need-words-requires
+words-requires c κs = search needs
+
+perform-requires : tie.Need-perform-requires
+perform-requires c κs = search needs
+
+returns-2 : tie.Need-returns-2
+unfolding handled
+returns-2 c =
+    let read = c .before .before .before in
+    rw (le-ltb _ 64 (read .before .if1 .left), ← read .words .ensures) (c .perform .ensures)
+
+pub handle-spec : {M : Type 1} → statement M
+handle-spec = tie.close (tie.spec bad-requires returns words-requires perform-requires returns-2)

@@ -1,0 +1,177 @@
+#!/usr/bin/env python3
+"""Compares a program with the player on inputs that end in every way.
+
+    python3 tools/check_endings.py PROGRAM
+
+PROGRAM is the path of an executable that plays records from its standard
+input. Prints `N endings agree`, or the first difference with exit status 1.
+"""
+
+import os
+import subprocess
+import sys
+import time
+
+import player
+
+LARGEST = 2 ** 64 - 1
+SECONDS = 60  # the longest that the program may take for one input
+
+
+def record(operation, *arguments):
+    words = (operation,) + arguments + (0,) * (7 - len(arguments))
+    return player.RECORD.pack(*words)
+
+
+def weight(number):
+    return record(player.APPEND_WEIGHT, number)
+
+
+def division(pool, share_count):
+    return record(player.DIVIDE, pool, share_count)
+
+
+THREE = weight(1) + weight(2) + weight(4) + division(10, 3)
+
+
+def endings():
+    """Pairs of a name and an input."""
+    found = []
+
+    def add(name, data):
+        found.append((name, data))
+
+    # Inputs that end well.
+    add("empty input", b"")
+    add("one division", THREE)
+    add("one division of nothing", division(0, 0))
+    add("weights without a division", weight(1) + weight(2))
+    add("a division, then weights without one", THREE + weight(1) * 300)
+    add("300 weights", weight(1) * 300 + division(5, 300))
+    add("300 weights twice",
+        (weight(LARGEST) * 300 + division(5, 300)) * 2 + THREE)
+    add("share slice of 300, no weights", division(5, 300) + THREE)
+
+    # Operations. The highest bits of the word count too.
+    unknown = [number for number in range(32)
+               if number not in player.OPERATIONS]
+    unknown += [99, LARGEST]
+    for known in sorted(player.OPERATIONS):
+        unknown += [known + 2 ** 8, known + 2 ** 16, known + 2 ** 32,
+                    known + 2 ** 63]
+    for number in unknown:
+        add("operation %d first" % number, record(number, 1, 1) + THREE)
+        add("operation %d after a division" % number,
+            THREE + record(number) + THREE)
+    add("unknown operation after a weight",
+        weight(1) + record(99) + division(10, 1))
+    add("two unknown operations", THREE + record(0) + record(99))
+
+    # Lengths of the share slice.
+    for length in (301, 302, 512, 2 ** 16, 2 ** 16 + 3, 2 ** 32, 2 ** 32 + 3,
+                   2 ** 63 + 3, LARGEST):
+        add("length %d" % length, division(0, length) + THREE)
+        add("length %d after weights" % length,
+            THREE + weight(1) * 3 + division(10, length) + division(10, 3))
+    add("length 301, 300 weights", weight(1) * 300 + division(10, 301) + THREE)
+
+    # The list of weights.
+    add("301st weight", weight(1) * 301 + division(10, 300) + THREE)
+    add("301st weight after a division", THREE + weight(1) * 301 + THREE)
+    add("301st weight after a full list",
+        weight(2) * 300 + division(10, 300) + weight(1) * 301 + THREE)
+    add("301st weight last", weight(0) * 301)
+
+    # Records cut short.
+    for left in (1, 7, 8, 9, 16, 24, 32, 62, 63):
+        add("%d bytes" % left, division(0, 0)[:left])
+        add("%d zero bytes" % left, bytes(left))
+        add("%d bytes after a division" % left, THREE + division(0, 0)[:left])
+        add("%d bytes after weights" % left,
+            weight(1) * 3 + division(10, 3)[:left])
+    add("cut short after an unknown operation",
+        THREE + record(99) + division(0, 0)[:5])
+    add("a weight cut short as the 301st", weight(1) * 301 + weight(1)[:40])
+    add("an unknown operation cut short", THREE + record(99)[:8])
+
+    # Many records, so that N is large.
+    many = division(0, 0) * 70000
+    add("70000 divisions", many)
+    add("70000 divisions, then an unknown operation", many + record(99) + THREE)
+    add("70000 divisions, then a record cut short", many + THREE[:63])
+    return found
+
+
+def run(program, data):
+    """What the program writes, and its exit status."""
+    done = subprocess.run([program], input=data, stdout=subprocess.PIPE,
+                          timeout=SECONDS)
+    return done.stdout, done.returncode
+
+
+def run_in_pieces(program, data, size):
+    """The same, with the input handed over a few bytes at a time."""
+    with subprocess.Popen([program], bufsize=0, stdin=subprocess.PIPE,
+                          stdout=subprocess.PIPE) as process:
+        try:
+            for start in range(0, len(data), size):
+                process.stdin.write(data[start:start + size])
+                time.sleep(0.001)
+        except BrokenPipeError:
+            pass  # the program stops at a bad record
+        try:
+            output = process.communicate(timeout=SECONDS)[0]
+        except subprocess.TimeoutExpired:
+            process.kill()
+            raise
+    return output, process.returncode
+
+
+def shown(output):
+    """The end of an output, for a message."""
+    if len(output) > 200:
+        return "... %r (%d bytes)" % (output[-200:], len(output))
+    return "%r" % output
+
+
+def main(arguments):
+    if len(arguments) != 1:
+        print("usage: check_endings.py PROGRAM", file=sys.stderr)
+        return 2
+    program = os.path.abspath(arguments[0])
+    runs = [(name, data, 0) for name, data in endings()]
+    for size in (7, 63, 65):
+        runs += [
+            ("divisions in pieces of %d bytes" % size, THREE * 8, size),
+            ("unknown operation in pieces of %d bytes" % size,
+             THREE * 4 + record(99) + THREE * 4, size),
+            ("cut short in pieces of %d bytes" % size,
+             THREE * 4 + THREE[:100], size),
+        ]
+    for name, data, size in runs:
+        wanted = player.play(data)
+        try:
+            if size == 0:
+                output, status = run(program, data)
+            else:
+                output, status = run_in_pieces(program, data, size)
+        except subprocess.TimeoutExpired:
+            print("%s: no end within %d seconds" % (name, SECONDS))
+            return 1
+        except OSError as error:
+            print("the program does not run: %s" % error)
+            return 1
+        if output != wanted:
+            print("%s: the output differs" % name)
+            print("  player  %s" % shown(wanted))
+            print("  program %s (exit status %d)" % (shown(output), status))
+            return 1
+        if status < 0:
+            print("%s: the program was ended by signal %d" % (name, -status))
+            return 1
+    print("%d endings agree" % len(runs))
+    return 0
+
+
+if __name__ == "__main__":
+    sys.exit(main(sys.argv[1:]))
