@@ -64,7 +64,7 @@ module _ (pool : ℕ) (weights : List ℕ) where
           (λ (none : pool ≡ 0). unit-of-none pool weights none k)
           divisible
 
-  -- Every share is less than one unit from its exact part G×w/T, both ways.
+  -- Every share s is less than one unit from its exact part G×w/T, both ways: s×T < G×w + T and G×w < s×T + T.
   pub share-near : 0 < sumOf weights → (k : ℕ) → Within 1 (at (divided pool weights) k) (pool * at weights k) (sumOf weights)
   share-near some k =
       ⊎-elim

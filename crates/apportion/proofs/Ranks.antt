@@ -11,7 +11,7 @@ use borrow.Author.Tests.{lt-ltb, le-ltb, le-leb, lt-leb, eq-eqb, ne-eqb, ltb-tru
 use Rattle.apportion.specs.Places.{sumBelow, oneIf, countBelow}
 use Rattle.apportion.specs.Dividing.{before, rank, unitFor}
 use Rattle.apportion.specs.Serving.{reach, unitBy}
-use Rattle.apportion.proofs.Sums.{order, below-or-not, sum-cong, sum-le, sum-lt, sum-add, sum-zero, one-at-most, sum-some, sum-next}
+use Rattle.apportion.proofs.Sums.{order, below-or-not, sum-cong, sum-le, sum-lt, sum-add, sum-zero, one-le, sum-some, sum-next}
 
 module _ (r : ℕ → ℕ) (j k : ℕ) where
   pub before-larger : r k < r j → before r j k ≡ true
@@ -42,35 +42,32 @@ count-first (suc n) k test h =
 
 -- a lower bound is reached by no fewer
 pub reach-down : (n : ℕ) (r : ℕ → ℕ) (low high : ℕ) → low ≤ high → reach n r high ≤ reach n r low
-reach-down n r low high h = sum-le n (λ k. oneIf (leb high (r k))) (λ k. oneIf (leb low (r k))) (λ k i. at-place k (leb high (r k)) refl)
-  where
-    at-place : (k : ℕ) (t : Bool) → leb high (r k) ≡ t → oneIf (leb high (r k)) ≤ oneIf (leb low (r k))
-    at-place k true e = let l = leb-true high (r k) e in rw (e, le-leb low (r k) (omega arith)) (le-refl 1)
-    at-place k false e = rw e (zero-le)
+reach-down n r low high h =
+    sum-le n (λ k. oneIf (leb high (r k))) (λ k. oneIf (leb low (r k)))
+    (λ k i. one-le (leb high (r k)) (leb low (r k)) (λ e. le-leb low (r k) (omega (arith, leb-true high (r k) e))))
 
 module _ (n : ℕ) (r : ℕ → ℕ) (k : ℕ) where
   -- fewer places come before place k than reach its number, since place k itself does
   rank-reach : k < n → rank n r k < reach n r (r k)
   unfolding rank
   rank-reach h =
-      sum-lt n (λ j. oneIf (before r j k)) (λ j. oneIf (leb (r k) (r j))) (λ j i. less j) k h
+      sum-lt n (λ j. oneIf (before r j k)) (λ j. oneIf (leb (r k) (r j)))
+      (λ j i. one-le (before r j k) (leb (r k) (r j)) (less j)) k h
       (rw (before-equal r k k refl, le-ltb k k (le-refl k), le-leb (r k) (r k) (le-refl (r k))) (le-refl 1))
     where
-      less : (j : ℕ) → oneIf (before r j k) ≤ oneIf (leb (r k) (r j))
-      less j =
+      less : (j : ℕ) → before r j k ≡ true → leb (r k) (r j) ≡ true
+      less j e =
           ⊎-elim
-          (λ (l : r j < r k). rw (before-smaller r j k l) zero-le)
-          (λ (l : r k ≤ r j). rw (le-leb (r k) (r j) l) (one-at-most (before r j k)))
+          (λ (l : r j < r k). absurd (true≢false (sym e ∙ before-smaller r j k l)))
+          (λ (l : r k ≤ r j). le-leb (r k) (r j) l)
           (below-or-not (r j) (r k))
 
   -- every place whose number is above that of place k comes before it
   pub reach-rank : reach n r (suc (r k)) ≤ rank n r k
   unfolding rank
-  reach-rank = sum-le n (λ j. oneIf (leb (suc (r k)) (r j))) (λ j. oneIf (before r j k)) (λ j i. less j (leb (suc (r k)) (r j)) refl)
-    where
-      less : (j : ℕ) (t : Bool) → leb (suc (r k)) (r j) ≡ t → oneIf (leb (suc (r k)) (r j)) ≤ oneIf (before r j k)
-      less j true e = rw (e, before-larger r j k (leb-true (suc (r k)) (r j) e)) (le-refl 1)
-      less j false e = rw e zero-le
+  reach-rank =
+      sum-le n (λ j. oneIf (leb (suc (r k)) (r j))) (λ j. oneIf (before r j k))
+      (λ j i. one-le (leb (suc (r k)) (r j)) (before r j k) (λ e. before-larger r j k (leb-true (suc (r k)) (r j) e)))
 
   -- place k has those before it that are above its number, and those at its number that are earlier
   rank-at : k ≤ n → rank n r k ≡ reach n r (suc (r k)) + countBelow k (λ j. eqb (r j) (r k))
@@ -119,56 +116,13 @@ before-trans r i j k first second =
 -- a place that comes before another gets a unit where the other does
 pub unit-before : (n : ℕ) (r : ℕ → ℕ) (left j k : ℕ) → before r j k ≡ true → unitFor n r left k ≤ unitFor n r left j
 unfolding unitFor rank
-unit-before n r left j k h = go (ltb (rank n r k) left) refl
+unit-before n r left j k h =
+    one-le (ltb (rank n r k) left) (ltb (rank n r j) left) (λ e. lt-ltb (rank n r j) left (omega (arith, ranks, ltb-true (rank n r k) left e)))
   where
     ranks : rank n r j ≤ rank n r k
-    ranks = sum-le n (λ i. oneIf (before r i j)) (λ i. oneIf (before r i k)) (λ i l. at-place i (before r i j) refl)
-      where
-        at-place : (i : ℕ) (b : Bool) → before r i j ≡ b → oneIf (before r i j) ≤ oneIf (before r i k)
-        at-place i true e = rw (e, before-trans r i j k e h) (le-refl 1)
-        at-place i false e = rw e zero-le
-
-    go : (b : Bool) → ltb (rank n r k) left ≡ b → oneIf (ltb (rank n r k) left) ≤ oneIf (ltb (rank n r j) left)
-    go true e = rw (e, lt-ltb (rank n r j) left (omega (arith, ranks, ltb-true (rank n r k) left e))) (le-refl 1)
-    go false e = rw e zero-le
-
--- By a bound t: place k gets a unit when its number is above t, and when it is t and fewer earlier places are at
--- t than units are left for them.
-module _ (n : ℕ) (r : ℕ → ℕ) (left t : ℕ) (above : reach n r (suc t) ≤ left) (reached : left ≤ reach n r t) where
-  -- how many places before place k are at t
-  abbrev pub at-bound : ℕ → ℕ
-  at-bound k = countBelow k (λ j. eqb (r j) t)
-
-  pub unit-above : (k : ℕ) → k < n → t < r k → unitFor n r left k ≡ 1
-  unfolding unitFor
-  unit-above k h l =
-      rw (lt-ltb (rank n r k) left (omega (arith, rank-reach n r k h, reach-down n r (suc t) (r k) l)))
-
-  pub unit-below : (k : ℕ) → r k < t → unitFor n r left k ≡ 0
-  unfolding unitFor
-  unit-below k l =
-      rw (le-ltb (rank n r k) left (omega (arith, reach-rank n r k, reach-down n r (suc (r k)) t l)))
-
-  pub unit-at : (k : ℕ) → k < n → r k ≡ t → unitFor n r left k ≡ oneIf (ltb (at-bound k) (left - reach n r (suc t)))
-  unfolding unitFor
-  unit-at k h e = ap oneIf (go (ltb (at-bound k) (left - reach n r (suc t))) refl)
-    where
-      place : rank n r k ≡ reach n r (suc t) + at-bound k
-      place = rw e at (rank-at n r k (omega arith))
-
-      go : (b : Bool) → ltb (at-bound k) (left - reach n r (suc t)) ≡ b → ltb (rank n r k) left ≡ ltb (at-bound k) (left - reach n r (suc t))
-      go true test = let l = ltb-true (at-bound k) (left - reach n r (suc t)) test in rw (test, lt-ltb (rank n r k) left (omega (arith, place)))
-      go false test = let l = ltb-false (at-bound k) (left - reach n r (suc t)) test in rw (test, le-ltb (rank n r k) left (omega (arith, place)))
-
-  -- the unit as the code makes it
-  pub unit-by : (k : ℕ) → k < n → unitBy (r k) t (at-bound k) (left - reach n r (suc t)) ≡ unitFor n r left k
-  unit-by k h =
-      ⊎-elim
-      (λ (l : r k < t). rw (unit-below k l, le-ltb t (r k) (omega arith), ne-eqb (r k) t (omega arith)))
-      (⊎-elim
-      (λ (e : r k ≡ t). rw (unit-at k h e, le-ltb t (r k) (omega arith), eq-eqb (r k) t e))
-      (λ (l : t < r k). rw (unit-above k h l, lt-ltb t (r k) l)))
-      (order (r k) t)
+    ranks =
+        sum-le n (λ i. oneIf (before r i j)) (λ i. oneIf (before r i k))
+        (λ i l. one-le (before r i j) (before r i k) (λ e. before-trans r i j k e h))
 
 -- of the places at t the earlier get the units that are left for them, as long as there are units
 equal-units : (r : ℕ → ℕ) (t units m : ℕ) → sumBelow m (λ k. oneIf (eqb (r k) t && ltb (countBelow k (λ j. eqb (r j) t)) units)) ≡ min units (countBelow m (λ j. eqb (r j) t))
@@ -202,29 +156,49 @@ reach-at n r t =
         (λ (l : t < r k). rw (le-leb t (r k) (omega arith), le-leb (suc t) (r k) l, ne-eqb (r k) t (omega arith))))
         (order (r k) t)
 
-units-by : (n : ℕ) (r : ℕ → ℕ) (left t : ℕ) → reach n r (suc t) ≤ left → left ≤ reach n r t → sumBelow n (unitFor n r left) ≡ left
-units-by n r left t above reached =
-    sum-cong n (unitFor n r left) (λ k. oneIf (leb (suc t) (r k)) + oneIf (eqb (r k) t && ltb (earlier k) units)) parts
-    ∙ sum-add n (λ k. oneIf (leb (suc t) (r k))) (λ k. oneIf (eqb (r k) t && ltb (earlier k) units))
-    ∙ omega (arith, equal-units r t units n, reach-at n r t)
-  where
-    earlier : ℕ → ℕ
-    earlier k = countBelow k (λ j. eqb (r j) t)
+-- By a bound t: place k gets a unit when its number is above t, and when it is t and fewer earlier places are at
+-- t than units are left for them.
+module _ (n : ℕ) (r : ℕ → ℕ) (left t : ℕ) (above : reach n r (suc t) ≤ left) (reached : left ≤ reach n r t) where
+  -- how many places before place k are at t
+  abbrev pub at-bound : ℕ → ℕ
+  at-bound k = countBelow k (λ j. eqb (r j) t)
 
-    units : ℕ
-    units = left - reach n r (suc t)
+  pub unit-above : (k : ℕ) → k < n → t < r k → unitFor n r left k ≡ 1
+  unfolding unitFor
+  unit-above k h l =
+      rw (lt-ltb (rank n r k) left (omega (arith, rank-reach n r k h, reach-down n r (suc t) (r k) l)))
 
-    parts : (k : ℕ) → k < n → unitFor n r left k ≡ oneIf (leb (suc t) (r k)) + oneIf (eqb (r k) t && ltb (earlier k) units)
-    parts k h =
-        ⊎-elim
-        (λ (l : r k < t).
-        rw (unit-below n r left t above reached k l, lt-leb (suc t) (r k) (omega arith), ne-eqb (r k) t (omega arith)))
-        (⊎-elim
-        (λ (e : r k ≡ t).
-        rw (unit-at n r left t above reached k h e, lt-leb (suc t) (r k) (omega arith), eq-eqb (r k) t e, zero-add))
-        (λ (l : t < r k).
-        rw (unit-above n r left t above reached k h l, le-leb (suc t) (r k) l, ne-eqb (r k) t (omega arith))))
-        (order (r k) t)
+  pub unit-below : (k : ℕ) → r k < t → unitFor n r left k ≡ 0
+  unfolding unitFor
+  unit-below k l =
+      rw (le-ltb (rank n r k) left (omega (arith, reach-rank n r k, reach-down n r (suc (r k)) t l)))
+
+  pub unit-at : (k : ℕ) → k < n → r k ≡ t → unitFor n r left k ≡ oneIf (ltb (at-bound k) (left - reach n r (suc t)))
+  unfolding unitFor
+  unit-at k h e = ap oneIf (go (ltb (at-bound k) (left - reach n r (suc t))) refl)
+    where
+      place : rank n r k ≡ reach n r (suc t) + at-bound k
+      place = rw e at (rank-at n r k (omega arith))
+
+      go : (b : Bool) → ltb (at-bound k) (left - reach n r (suc t)) ≡ b → ltb (rank n r k) left ≡ ltb (at-bound k) (left - reach n r (suc t))
+      go true test = let l = ltb-true (at-bound k) (left - reach n r (suc t)) test in rw (test, lt-ltb (rank n r k) left (omega (arith, place)))
+      go false test = let l = ltb-false (at-bound k) (left - reach n r (suc t)) test in rw (test, le-ltb (rank n r k) left (omega (arith, place)))
+
+  -- the unit as the code makes it
+  pub unit-by : (k : ℕ) → k < n → unitFor n r left k ≡ unitBy (r k) t (at-bound k) (left - reach n r (suc t))
+  unit-by k h =
+      ⊎-elim
+      (λ (l : r k < t). rw (unit-below k l, le-ltb t (r k) (omega arith), ne-eqb (r k) t (omega arith)))
+      (⊎-elim
+      (λ (e : r k ≡ t). rw (unit-at k h e, le-ltb t (r k) (omega arith), eq-eqb (r k) t e, zero-add))
+      (λ (l : t < r k). rw (unit-above k h l, lt-ltb t (r k) l, ne-eqb (r k) t (omega arith))))
+      (order (r k) t)
+
+  units-by : sumBelow n (unitFor n r left) ≡ left
+  units-by =
+      sum-cong n (unitFor n r left) (λ k. unitBy (r k) t (at-bound k) (left - reach n r (suc t))) unit-by
+      ∙ sum-add n (λ k. oneIf (ltb t (r k))) (λ k. oneIf (eqb (r k) t && ltb (at-bound k) (left - reach n r (suc t))))
+      ∙ omega (arith, equal-units r t (left - reach n r (suc t)) n, reach-at n r t)
 
 -- every place reaches 0
 pub reach-zero : (n : ℕ) (r : ℕ → ℕ) → reach n r 0 ≡ n

@@ -53,7 +53,7 @@ module _ {remainders : List ℕ} {least left : ℕ} {shares₀ shares : List ℕ
       unfolding countAtLeast
       unit-here =
           unit-is ∙ rw (equal-is, add-one, s .earlier-is)
-          (unit-by (length remainders) (at remainders) left least (s .bound .above) (s .bound .reached) k here)
+          (sym (unit-by (length remainders) (at remainders) left least (s .bound .above) (s .bound .reached) k here))
 
       shares-next : set shares k (at shares k + unit) ≡ filled (k + 1) (served remainders left shares₀) shares₀
       shares-next =

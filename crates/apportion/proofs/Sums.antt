@@ -2,8 +2,8 @@
 use mathlib.Core.Path.{_≡_, refl, sym, ap}
 use mathlib.Core.Bool.{Bool, true, false}
 use mathlib.Core.Logic.{_⊎_, inl, inr, ⊎-elim}
-use Prim.Native.Nat.{ℕ, zero, suc, _+_, _*_, _≤_, _<_}
-use native.Mathlib.Nat.{eq-or-lt-of-le, mul-zero}
+use Prim.Native.Nat.{ℕ, zero, suc, _+_, _*_, _≤_, _<_, zero-le}
+use native.Mathlib.Nat.{le-refl, eq-or-lt-of-le, mul-zero}
 use native.Mathlib.Numerals.{add-one}
 use native.Mathlib.Omega.{arith}
 use lib.Dec.{ltb}
@@ -81,6 +81,11 @@ sum-zero (suc n) f none = omega (arith, sum-zero n f (λ k h. none k (omega arit
 pub one-at-most : (b : Bool) → oneIf b ≤ 1
 one-at-most true = omega arith
 one-at-most false = omega arith
+
+-- what passes the first test passes the second
+pub one-le : (a b : Bool) → (a ≡ true → b ≡ true) → oneIf a ≤ oneIf b
+one-le true b h = rw (h refl) (le-refl 1)
+one-le false b h = zero-le
 
 -- a count is at most the number of places
 pub count-most : (n : ℕ) (test : ℕ → Bool) → countBelow n test ≤ n

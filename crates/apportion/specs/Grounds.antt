@@ -1,8 +1,8 @@
 -- "Grounds, in checking order": a call answers the number of the first ground whose condition holds, or 0.
 -- Assumes nothing.
-use Prim.Native.Nat.{ℕ, zero, suc}
 use mathlib.Core.Bool.{Bool, cond}
 use mathlib.Core.List.{List, [], _∷_}
+use Prim.Native.Nat.{ℕ, zero, suc}
 
 -- a refusal number and its condition
 abbrev pub Ground : Type 0

@@ -1,8 +1,8 @@
 -- Sums, counts and lists over places. Places are counted from 0; places below n are 0, .., n - 1.
 -- Assumes nothing.
-use Prim.Native.Nat.{ℕ, zero, suc, _+_}
 use mathlib.Core.Bool.{Bool, true, false, cond}
 use mathlib.Core.List.{List, [], _∷_, _++_}
+use Prim.Native.Nat.{ℕ, zero, suc, _+_}
 use lib.ListN.{length, getD}
 
 -- f 0 + .. + f (n - 1)

@@ -1,7 +1,7 @@
 -- What the contracts of the inner functions cite: pool × weight by the total, made bit by bit. Assumes nothing.
 use mathlib.Core.Path.{_≡_}
-use Prim.Native.Nat.{ℕ, _+_, _*_, _^_, _≤_, _<_}
 use mathlib.Core.List.{List}
+use Prim.Native.Nat.{ℕ, _+_, _*_, _^_, _≤_, _<_}
 use lib.ListN.{length}
 use Rattle.apportion.specs.Places.{at}
 use Rattle.apportion.specs.Dividing.{largest}

@@ -1,8 +1,8 @@
 -- What the contracts of the inner functions cite: how the units left over are handed out by a bound on the
 -- remainders. Assumes nothing.
-use Prim.Native.Nat.{ℕ, suc, _+_, _≤_}
 use mathlib.Core.List.{List}
-use mathlib.Core.Bool.{_&&_, _||_}
+use mathlib.Core.Bool.{_&&_}
+use Prim.Native.Nat.{ℕ, suc, _+_, _≤_}
 use lib.Dec.{ltb, leb, eqb}
 use lib.ListN.{length}
 use Rattle.apportion.specs.Places.{oneIf, countBelow, listBelow, at}
@@ -25,7 +25,7 @@ pub record Bound (remainders : List ℕ) (left least : ℕ) : Type 0 where
 -- the unit of a place by the bound: one above it, and one at it while fewer earlier places are at it than units are
 -- left for them
 abbrev pub unitBy : ℕ → ℕ → ℕ → ℕ → ℕ
-unitBy remainder least earlier equal = oneIf (ltb least remainder || (eqb remainder least && ltb earlier equal))
+unitBy remainder least earlier equal = oneIf (ltb least remainder) + oneIf (eqb remainder least && ltb earlier equal)
 
 -- the shares with the units that are left over added
 unfoldable pub withUnits : List ℕ → ℕ → List ℕ → List ℕ

@@ -1,14 +1,14 @@
 -- `apportion::capped_total` meets its contract: up to place k the sum is that of the definition and within 10^18; once it would pass 10^18, so does the whole.
 -- Assumes nothing.
 use mathlib.Core.List.{List}
-use Prim.Native.Nat.{min, ℕ, suc, _+_, _-_, _≤_, _<_}
-use Rattle.apportion.proofs.Sums.{sum-more, sum-next}
 use mathlib.Core.Path.{_≡_, ap}
+use Prim.Native.Nat.{min, ℕ, suc, _+_, _-_, _≤_, _<_}
 use native.Mathlib.Omega.{arith}
 use lib.ListN.{length}
+use borrow.Author.Needs.{needs}
 use Rattle.apportion.specs.Places.{sumBelow, at, sumOf}
 use Rattle.apportion.specs.Dividing.{largest}
-use borrow.Author.Needs.{needs}
+use Rattle.apportion.proofs.Sums.{sum-more, sum-next}
 use Rattle.apportion.proofs.capped_total.Statement.{statement}
 use Rattle.apportion.proofs.capped_total.Tie as tie
 

@@ -1,12 +1,12 @@
 -- `apportion::clear` meets its contract: up to place k the shares are 0.
 -- Assumes nothing.
 use mathlib.Core.List.{List}
-use lib.ListN.{set, length-set, length}
-use Rattle.apportion.proofs.Lists.{filled-next, filled-whole, filled}
 use mathlib.Core.Path.{_≡_, refl, ap, _∙_}
 use Prim.Native.Nat.{ℕ, _-_, _≤_}
 use native.Mathlib.Omega.{arith}
+use lib.ListN.{set, length-set, length}
 use borrow.Author.Needs.{needs}
+use Rattle.apportion.proofs.Lists.{filled-next, filled-whole, filled}
 use Rattle.apportion.proofs.clear.Statement.{statement}
 use Rattle.apportion.proofs.clear.Tie as tie
 

@@ -1,8 +1,8 @@
 -- `apportion::divide` meets its contract: the capped sum decides as the sum does, and the shares are written where the number is 0 alone.
 -- Assumes nothing.
 use mathlib.Core.Path.{sym, _∙_}
-use Rattle.apportion.proofs.Accepting.{number-whole, total-whole, shares-accepted, shares-refused}
 use borrow.Author.Needs.{needs}
+use Rattle.apportion.proofs.Accepting.{number-whole, total-whole, shares-accepted, shares-refused}
 use Rattle.apportion.proofs.divide.Statement.{statement}
 use Rattle.apportion.proofs.divide.Tie as tie
 

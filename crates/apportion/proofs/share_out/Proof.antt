@@ -1,7 +1,7 @@
 -- `apportion::share_out` meets its contract: a pool of 0 gives 0 to each, and any other is handed on with what the grounds let through.
 -- Assumes nothing.
-use Prim.Native.Nat.{_<_, ℕ}
 use mathlib.Core.Path.{sym, ap, _∙_}
+use Prim.Native.Nat.{_<_, ℕ}
 use lib.ListN.{length}
 use lib.Seq.{length-take-le}
 use Rattle.apportion.specs.Places.{listBelow}

@@ -1,10 +1,10 @@
 -- `apportion::floors::divide_product` meets its contract: the sum of the powers at the bits taken and pool × what is left of the weight are pool × weight.
 -- Assumes nothing.
+use mathlib.Core.Logic.{⊎-elim}
 use Prim.Native.Nat.{_^_, _≤_, _<_}
 use native.Mathlib.Nat.{mul-le-mul-left, le-of-mul-le-mul-right}
 use native.Mathlib.Omega.{arith}
 use Rattle.apportion.specs.Places.{at}
-use mathlib.Core.Logic.{⊎-elim}
 use Rattle.apportion.proofs.Powers.{Adding, bit-small, adding-start, adding-bit, adding-small, adding-skip, adding-take, adding-done}
 use Rattle.apportion.proofs.floors.divide_product.Statement.{statement}
 use Rattle.apportion.proofs.floors.divide_product.Tie as tie

@@ -2,13 +2,13 @@
 -- Assumes nothing.
 use mathlib.Core.Path.{_≡_, sym}
 use Prim.Native.Nat.{_*_, _/_, _%_, _-_}
+use native.Mathlib.Omega.{arith}
+use lib.ListN.{length}
+use borrow.Author.Needs.{needs}
 use Rattle.apportion.specs.Places.{at, sumOf}
 use Rattle.apportion.specs.Products.{Powers}
 use Rattle.apportion.proofs.Shares.{weight-within}
-use native.Mathlib.Omega.{arith}
-use lib.ListN.{length}
 use Rattle.apportion.proofs.Flooring.{Flooring, flooring-start, flooring-long, flooring-within, flooring-next, flooring-done}
-use borrow.Author.Needs.{needs}
 use Rattle.apportion.proofs.floors.set_floors.Statement.{statement}
 use Rattle.apportion.proofs.floors.set_floors.Tie as tie
 

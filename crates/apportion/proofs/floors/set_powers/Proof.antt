@@ -2,8 +2,8 @@
 -- Assumes nothing.
 use Prim.Native.Nat.{_+_, _-_, _<_}
 use native.Mathlib.Omega.{arith}
-use Rattle.apportion.proofs.Powers.{Making, bit-small, making-start, making-small, making-next, making-done}
 use borrow.Author.Needs.{needs}
+use Rattle.apportion.proofs.Powers.{Making, bit-small, making-start, making-small, making-next, making-done}
 use Rattle.apportion.proofs.floors.set_powers.Statement.{statement}
 use Rattle.apportion.proofs.floors.set_powers.Tie as tie
 

@@ -6,9 +6,9 @@ use Prim.Native.Nat.{ℕ, _+_, _-_}
 use native.Mathlib.Numerals.{add-one}
 use native.Mathlib.Omega.{arith}
 use lib.ListN.{length}
+use borrow.Author.Needs.{needs}
 use Rattle.apportion.specs.Serving.{countAtLeast}
 use Rattle.apportion.proofs.Serving.{Handing, handing-start, handing-long, handing-few, handing-at, handing-equal, handing-other, handing-done}
-use borrow.Author.Needs.{needs}
 use Rattle.apportion.proofs.units.add_units.Statement.{statement}
 use Rattle.apportion.proofs.units.add_units.Tie as tie
 

@@ -1,14 +1,14 @@
 -- `apportion::units::count_at_least` meets its contract: `count` is the count among the places up to k.
 -- Assumes nothing.
-use Rattle.apportion.proofs.Ranks.{reach-next, reach-same}
 use mathlib.Core.Logic.{⊎-elim}
 use mathlib.Core.Path.{_≡_, ap}
 use Prim.Native.Nat.{ℕ, _-_, _≤_}
 use native.Mathlib.Omega.{arith}
 use lib.ListN.{length}
+use borrow.Author.Needs.{needs}
 use Rattle.apportion.specs.Places.{at}
 use Rattle.apportion.specs.Serving.{reach, countAtLeast}
-use borrow.Author.Needs.{needs}
+use Rattle.apportion.proofs.Ranks.{reach-next, reach-same}
 use Rattle.apportion.proofs.units.count_at_least.Statement.{statement}
 use Rattle.apportion.proofs.units.count_at_least.Tie as tie
 

@@ -1,14 +1,14 @@
 -- `apportion::units::least_served` meets its contract: as many as are left over reach `low`, and no more reach `high`.
 -- Assumes nothing.
 use mathlib.Core.Path.{_≡_, ap}
+use mathlib.Core.List.{List}
 use Prim.Native.Nat.{ℕ, suc, _-_, _≤_, _<_}
 use native.Mathlib.Omega.{arith}
-use mathlib.Core.List.{List}
 use lib.ListN.{length}
+use borrow.Author.Needs.{needs}
 use Rattle.apportion.specs.Places.{at}
 use Rattle.apportion.specs.Serving.{countAtLeast, Bound}
 use Rattle.apportion.proofs.Ranks.{reach-down}
-use borrow.Author.Needs.{needs}
 use Rattle.apportion.proofs.units.least_served.Statement.{statement}
 use Rattle.apportion.proofs.units.least_served.Tie as tie
 
