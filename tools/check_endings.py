@@ -1,5 +1,5 @@
 #!/usr/bin/env python3
-"""Compares a program with the player on inputs that end in every way.
+"""Compares a program with the player on inputs that end in many ways.
 
     python3 tools/check_endings.py PROGRAM
 

@@ -31,14 +31,14 @@ module _ {pool : ℕ} {weights floors₀ remainders₀ floors remainders : List 
       (omega (arith, ap length (f .floors-are), a, f .long), omega (arith, ap length (f .remainders-are), b, f .long))
 
   module _ {quotient remainder : ℕ} (here : k < length weights)
-      (is-floor : quotient ≡ pool * at weights k / sumOf weights) (is-remainder : remainder ≡ pool * at weights k % sumOf weights) where
+      (part : (quotient ≡ pool * at weights k / sumOf weights) × (remainder ≡ pool * at weights k % sumOf weights)) where
     floor-here : quotient ≡ floorAt pool weights k
     unfolding floorAt
-    floor-here = is-floor
+    floor-here = part .0
 
     remainder-here : remainder ≡ remainderAt pool weights k
     unfolding remainderAt
-    remainder-here = is-remainder
+    remainder-here = part .1
 
     pub flooring-within : quotient ≤ left
     flooring-within =

@@ -4,14 +4,14 @@ use mathlib.Core.Path.{_≡_, refl, sym, ap, _∙_}
 use mathlib.Core.Bool.{Bool, true, false, _&&_, true≢false, and-true, and-false}
 use mathlib.Core.Logic.{⊎-elim}
 use Prim.Native.Nat.{ℕ, zero, suc, _+_, _-_, _≤_, _<_, min, zero-le}
-use native.Mathlib.Nat.{le-refl, le-trans, eq-or-lt-of-le, zero-add, add-zero}
+use native.Mathlib.Nat.{le-refl, le-trans, eq-or-lt-of-le, zero-add}
 use native.Mathlib.Omega.{arith}
 use lib.Dec.{ltb, leb, eqb}
 use borrow.Author.Tests.{lt-ltb, le-ltb, le-leb, lt-leb, eq-eqb, ne-eqb, ltb-true, ltb-false, leb-true, leb-false}
 use Rattle.apportion.specs.Places.{sumBelow, oneIf, countBelow}
 use Rattle.apportion.specs.Dividing.{before, rank, unitFor}
 use Rattle.apportion.specs.Serving.{reach, unitBy}
-use Rattle.apportion.proofs.Sums.{order, below-or-not, sum-cong, sum-le, sum-lt, sum-add, sum-zero, one-le, sum-some, sum-next}
+use Rattle.apportion.proofs.Sums.{order, below-or-not, sum-cong, sum-le, sum-lt, sum-add, sum-zero, one-le, sum-some}
 
 module _ (r : ℕ → ℕ) (j k : ℕ) where
   pub before-larger : r k < r j → before r j k ≡ true
@@ -221,10 +221,3 @@ units-sum n r left few =
         go : (b : Bool) → leb left (reach n r (suc t)) ≡ b → (reach n r (suc t) ≤ left → sumBelow n (unitFor n r left) ≡ left) → sumBelow n (unitFor n r left) ≡ left
         go true e lower = units-by n r left (suc t) above (leb-true left (reach n r (suc t)) e)
         go false e lower = lower (omega (arith, leb-false left (reach n r (suc t)) e))
-
--- one place more, as the code counts those that reach the bound
-pub reach-next : (k : ℕ) (r : ℕ → ℕ) (bound : ℕ) → bound ≤ r k → reach (k + 1) r bound ≡ reach k r bound + 1
-reach-next k r bound h = sum-next k (λ j. oneIf (leb bound (r j))) ∙ rw (le-leb bound (r k) h)
-
-pub reach-same : (k : ℕ) (r : ℕ → ℕ) (bound : ℕ) → r k < bound → reach (k + 1) r bound ≡ reach k r bound
-reach-same k r bound h = sum-next k (λ j. oneIf (leb bound (r j))) ∙ rw (lt-leb bound (r k) h, add-zero)

@@ -2,12 +2,10 @@
 use mathlib.Core.Path.{_≡_, refl, sym, ap, _∙_}
 use mathlib.Core.List.{List}
 use Prim.Native.Nat.{ℕ, _+_, _-_, _≤_, _<_}
-use native.Mathlib.Nat.{add-zero}
 use native.Mathlib.Numerals.{add-one}
 use native.Mathlib.Omega.{arith}
 use lib.Dec.{eqb}
 use lib.ListN.{length, set}
-use borrow.Author.Tests.{eq-eqb, ne-eqb}
 use Rattle.apportion.specs.Places.{oneIf, countBelow, at}
 use Rattle.apportion.specs.Dividing.{unitFor}
 use Rattle.apportion.specs.Serving.{countAtLeast, Bound, unitBy, withUnits}
@@ -59,27 +57,14 @@ module _ {remainders : List ℕ} {least left : ℕ} {shares₀ shares : List ℕ
       shares-next =
           rw (handing-at, unit-here, s .shares-are) (filled-next k (served remainders left shares₀) shares₀ (omega (arith, s .long)))
 
-      -- place k is at the bound, or it is not
-      pub handing-equal : at remainders k ≡ least → Handing remainders least left shares₀ (set shares k (at shares k + unit)) (earlier + 1) (k + 1)
-      handing-equal e =
+      -- a turn of the loop: `earlier` counts place k where it is at the bound
+      pub handing-next : {earlier′ : ℕ} → earlier′ ≡ earlier + oneIf (eqb (at remainders k) least)
+          → Handing remainders least left shares₀ (set shares k (at shares k + unit)) earlier′ (k + 1)
+      handing-next counted =
           record {
             passed = omega arith;
             long = s .long;
             bound = s .bound;
             shares-are = shares-next;
-            earlier-is =
-                ap (λ (m : ℕ). m + 1) (s .earlier-is)
-                ∙ sym (sum-next k (λ j. oneIf (eqb (at remainders j) least)) ∙ rw (eq-eqb (at remainders k) least e));
-          }
-
-      pub handing-other : (at remainders k ≡ least → ⊥) → Handing remainders least left shares₀ (set shares k (at shares k + unit)) earlier (k + 1)
-      handing-other ne =
-          record {
-            passed = omega arith;
-            long = s .long;
-            bound = s .bound;
-            shares-are = shares-next;
-            earlier-is =
-                s .earlier-is
-                ∙ sym (sum-next k (λ j. oneIf (eqb (at remainders j) least)) ∙ rw (ne-eqb (at remainders k) least ne, add-zero));
+            earlier-is = counted ∙ ap (λ (m : ℕ). m + oneIf (eqb (at remainders k) least)) (s .earlier-is) ∙ sym (sum-next k (λ j. oneIf (eqb (at remainders j) least)));
           }

@@ -1,7 +1,7 @@
 -- `apportion::floors::set_floors` meets its contract: up to place k the floors and remainders are those of the definition, and `left` is the pool without these floors.
 -- Assumes nothing.
 use mathlib.Core.Path.{_≡_, sym}
-use Prim.Native.Nat.{_*_, _/_, _%_, _-_}
+use Prim.Native.Nat.{_*_, _/_, _%_, _-_, _<_}
 use native.Mathlib.Omega.{arith}
 use lib.ListN.{length}
 use borrow.Author.Needs.{needs}
@@ -33,18 +33,16 @@ long : (c : tie.At-loop Inv-loop μ-loop)
     → (length (c .loop .floors) ≡ length (start c .args .weights .now)) × (length (c .loop .remainders) ≡ length (start c .args .weights .now))
 long c = flooring-long (c .loop .inv)
 
--- what `divide_product` gave is this place's floor and remainder
-floor : (c : tie.After-divide-product Inv-loop μ-loop)
-    → c .divide-product .result .quotient
-    ≡ start (c .before .before .before .before .before) .args .pool * at (start (c .before .before .before .before .before) .args .weights .now) (c .before .before .before .before .before .loop .k)
-    / sumOf (start (c .before .before .before .before .before) .args .weights .now)
-floor c = rw (← (start (c .before .before .before .before .before) .pre .1 .0)) (c .divide-product .ensures .0)
+-- place k is within both slices
+inside : (c : tie.In-loop Inv-loop μ-loop) → (c .before .loop .k < length (c .before .loop .floors)) × (c .before .loop .k < length (c .before .loop .remainders))
+inside c = omega (arith, long (c .before), c .loop-test .taken)
 
-remainder : (c : tie.After-divide-product Inv-loop μ-loop)
-    → c .divide-product .result .remainder
-    ≡ start (c .before .before .before .before .before) .args .pool * at (start (c .before .before .before .before .before) .args .weights .now) (c .before .before .before .before .before .loop .k)
-    % sumOf (start (c .before .before .before .before .before) .args .weights .now)
-remainder c = rw (← (start (c .before .before .before .before .before) .pre .1 .0)) (c .divide-product .ensures .1)
+-- what `divide_product` gave is this place's floor and remainder
+part : (c : tie.After-divide-product Inv-loop μ-loop) → let l = c .before .before .before .before .before in
+    let a = start l .args in
+    (c .divide-product .result .quotient ≡ a .pool * at (a .weights .now) (l .loop .k) / sumOf (a .weights .now))
+    × (c .divide-product .result .remainder ≡ a .pool * at (a .weights .now) (l .loop .k) % sumOf (a .weights .now))
+part c = rw (← (start (c .before .before .before .before .before) .pre .1 .0)) (c .divide-product .ensures)
 
 slice-aggregate-set-powers : tie.Need-slice-aggregate-set-powers Inv-loop μ-loop
 slice-aggregate-set-powers c = search needs
@@ -84,21 +82,20 @@ divide-product-requires c κs =
     )
 
 mul-floors : tie.Need-mul-floors Inv-loop μ-loop
-mul-floors c = omega (arith, long (c .before .before .before .before .before), c .before .before .before .before .loop-test .taken)
+mul-floors c = omega (arith, inside (c .before .before .before .before))
 
 slice-write-floors : tie.Need-slice-write-floors Inv-loop μ-loop
-slice-write-floors c = omega (arith, long (c .before .before .before .before .before), c .before .before .before .before .loop-test .taken)
+slice-write-floors c = omega (arith, inside (c .before .before .before .before))
 
 mul-remainders : tie.Need-mul-remainders Inv-loop μ-loop
-mul-remainders c = omega (arith, long (c .before .before .before .before .before), c .before .before .before .before .loop-test .taken)
+mul-remainders c = omega (arith, inside (c .before .before .before .before))
 
 slice-write-remainders : tie.Need-slice-write-remainders Inv-loop μ-loop
-slice-write-remainders c = omega (arith, long (c .before .before .before .before .before), c .before .before .before .before .loop-test .taken)
+slice-write-remainders c = omega (arith, inside (c .before .before .before .before))
 
 sub-left : tie.Need-sub-left Inv-loop μ-loop
 sub-left c =
-    flooring-within (c .before .before .before .before .before .before .loop .inv) (c .before .before .before .before .before .loop-test .taken)
-    (floor (c .before)) (remainder (c .before))
+    flooring-within (c .before .before .before .before .before .before .loop .inv) (c .before .before .before .before .before .loop-test .taken) (part (c .before))
 
 add-k : tie.Need-add-k Inv-loop μ-loop
 add-k c = search needs
@@ -108,8 +105,7 @@ loop-less c = omega (arith, c .before .before .before .before .before .loop-test
 
 loop-again : tie.Need-loop-again Inv-loop μ-loop
 loop-again c =
-    flooring-next (c .before .before .before .before .before .before .loop .inv) (c .before .before .before .before .before .loop-test .taken)
-    (floor (c .before)) (remainder (c .before))
+    flooring-next (c .before .before .before .before .before .before .loop .inv) (c .before .before .before .before .before .loop-test .taken) (part (c .before))
 
 same-length : tie.Need-same-length Inv-loop μ-loop
 same-length c = omega (arith, long (c .before), start (c .before) .pre .1 .1)

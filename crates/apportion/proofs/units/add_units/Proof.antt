@@ -3,12 +3,15 @@
 use mathlib.Core.Path.{_≡_, sym, ap, _∙_}
 use mathlib.Core.Logic.{⊎-elim}
 use Prim.Native.Nat.{ℕ, _+_, _-_}
+use native.Mathlib.Nat.{add-zero}
 use native.Mathlib.Numerals.{add-one}
 use native.Mathlib.Omega.{arith}
 use lib.ListN.{length}
+use borrow.Author.Tests.{eq-eqb, ne-eqb}
 use borrow.Author.Needs.{needs}
+use Rattle.apportion.specs.Places.{oneIf}
 use Rattle.apportion.specs.Serving.{countAtLeast}
-use Rattle.apportion.proofs.Serving.{Handing, handing-start, handing-long, handing-few, handing-at, handing-equal, handing-other, handing-done}
+use Rattle.apportion.proofs.Serving.{Handing, handing-start, handing-long, handing-few, handing-at, handing-next, handing-done}
 use Rattle.apportion.proofs.units.add_units.Statement.{statement}
 use Rattle.apportion.proofs.units.add_units.Tie as tie
 
@@ -88,10 +91,11 @@ loop-again c =
     let l = c .before .before .before .before .before in
     let here = c .before .before .before .before .loop-test .taken in
     let unit-is = c .before .before .unit-by .ensures .0 in
-    ⊎-elim
-    (λ w. rw (w .1) (handing-equal (l .loop .inv) here (equal-is l) unit-is (w .0 .taken)))
-    (λ w. rw (w .1) (handing-other (l .loop .inv) here (equal-is l) unit-is (w .0 .left)))
-    (c .if1 .came)
+    handing-next (l .loop .inv) here (equal-is l) unit-is
+    (⊎-elim
+    (λ w. w .1 ∙ ap (λ (m : ℕ). l .loop .earlier + m) (sym (ap oneIf (eq-eqb _ _ (w .0 .taken)))))
+    (λ w. w .1 ∙ sym (add-zero (l .loop .earlier)) ∙ ap (λ (m : ℕ). l .loop .earlier + m) (sym (ap oneIf (ne-eqb _ _ (w .0 .left)))))
+    (c .if1 .came))
 
 same-length : tie.Need-same-length Inv-loop μ-loop
 same-length c = long (c .before) ∙ sym (start (c .before) .pre .1 .1 .0)

@@ -5,10 +5,12 @@ use mathlib.Core.Path.{_≡_, ap}
 use Prim.Native.Nat.{ℕ, _-_, _≤_}
 use native.Mathlib.Omega.{arith}
 use lib.ListN.{length}
+use lib.Dec.{leb}
 use borrow.Author.Needs.{needs}
-use Rattle.apportion.specs.Places.{at}
+use borrow.Author.Tests.{le-leb, lt-leb}
+use Rattle.apportion.specs.Places.{oneIf, at}
 use Rattle.apportion.specs.Serving.{reach, countAtLeast}
-use Rattle.apportion.proofs.Ranks.{reach-next, reach-same}
+use Rattle.apportion.proofs.Sums.{sum-next}
 use Rattle.apportion.proofs.units.count_at_least.Statement.{statement}
 use Rattle.apportion.proofs.units.count_at_least.Tie as tie
 
@@ -41,9 +43,10 @@ loop-again c =
     let r = at (c .before .before .before .before .args .remainders .now) in
     let k = c .before .before .before .loop .k in
     let bound = c .before .before .before .before .args .bound in
+    let next = sum-next k (λ j. oneIf (leb bound (r j))) in
     ⊎-elim
-    (λ w. omega (arith, reach-next k r bound (w .0 .taken)))
-    (λ w. omega (arith, reach-same k r bound (w .0 .left)))
+    (λ w. omega (arith, next, ap oneIf (le-leb bound (r k) (w .0 .taken))))
+    (λ w. omega (arith, next, ap oneIf (lt-leb bound (r k) (w .0 .left))))
     (c .if1 .came)
 
 ended : (c : tie.After-loop Inv-loop μ-loop) → c .before .loop .k ≡ length (c .before .before .args .remainders .now)
