@@ -34,6 +34,20 @@ def division(pool, share_count):
 THREE = weight(1) + weight(2) + weight(4) + division(10, 3)
 
 
+def dump(first, count):
+    return record(player.DUMP, first, count)
+
+
+# A book with a record of each sort, and its words.
+BOOK = (
+    record(player.FRESH) + record(player.OPEN, 3)
+    + record(player.POST, 1, 1, 5, 6, 7) + record(player.STRIKE, 1)
+    + record(player.ENROL, 1, 1, 100, 2, 3)
+    + record(player.QUOTE, 1, 1, 1000, 1, 2, 3)
+    + dump(0, 42) + dump(356, 17)
+)
+
+
 def endings():
     """Pairs of a name and an input."""
     found = []
@@ -51,6 +65,46 @@ def endings():
     add("300 weights twice",
         (weight(LARGEST) * 300 + division(5, 300)) * 2 + THREE)
     add("share slice of 300, no weights", division(5, 300) + THREE)
+
+    # A book, and what changes nothing of it.
+    add("calls before fresh", BOOK[player.RECORD.size:])
+    add("a book", BOOK)
+    add("a book twice", BOOK + THREE + BOOK)
+    add("weights, a book, a division",
+        weight(1) * 3 + BOOK + division(10, 3) + dump(0, 42))
+    add("the last word written",
+        BOOK + record(player.POKE, 2999, LARGEST) + dump(2999, 1))
+    for lent in (0, 1, 2403, 2404, 3000):
+        add("%d words lent" % lent, record(player.LEND, lent) + BOOK)
+        add("%d words lent later" % lent,
+            BOOK + record(player.LEND, lent) + BOOK)
+    for first, count in ((0, 0), (0, 3000), (3000, 0), (2999, 1), (1, 2999)):
+        add("dump of %d words from %d" % (count, first),
+            BOOK + dump(first, count) + THREE)
+
+    # Words that are not there.
+    for index in (3000, 3001, 4096, 2 ** 16, 2 ** 32, 2 ** 32 + 1, 2 ** 61,
+                  2 ** 63, LARGEST):
+        add("poke of word %d" % index,
+            record(player.POKE, index, 1) + dump(0, 4))
+        add("poke of word %d after a book" % index,
+            BOOK + record(player.POKE, index) + BOOK)
+    for count in (3001, 4096, 2 ** 16, 2 ** 32, 2 ** 32 + 2404, 2 ** 61,
+                  2 ** 63, LARGEST):
+        add("%d words lent" % count, record(player.LEND, count) + BOOK)
+        add("%d words lent after a book" % count,
+            BOOK + record(player.LEND, count) + BOOK)
+    for first, count in (
+        (0, 3001), (1, 3000), (2999, 2), (3000, 1), (3001, 0), (1500, 1501),
+        (2 ** 32, 0), (0, 2 ** 32), (2 ** 32, 2 ** 32), (2 ** 63, 2 ** 63),
+        (2 ** 63, 2 ** 63 + 5), (LARGEST, 0), (LARGEST, 1), (LARGEST, 5),
+        (0, LARGEST), (1, LARGEST), (5, LARGEST), (LARGEST, LARGEST),
+        (2 ** 64 - 3000, 3000), (3000, 2 ** 64 - 3000),
+    ):
+        add("dump of %d words from %d" % (count, first),
+            dump(first, count) + THREE)
+        add("dump of %d words from %d after a book" % (count, first),
+            BOOK + dump(first, count) + BOOK)
 
     # Operations. The highest bits of the word count too.
     unknown = [number for number in range(32)
@@ -89,6 +143,10 @@ def endings():
         add("%d bytes after a division" % left, THREE + division(0, 0)[:left])
         add("%d bytes after weights" % left,
             weight(1) * 3 + division(10, 3)[:left])
+        add("%d bytes of a dump after a book" % left,
+            BOOK + dump(0, 42)[:left])
+        add("%d bytes of a call after a book" % left,
+            BOOK + record(player.OPEN, 1)[:left])
     add("cut short after an unknown operation",
         THREE + record(99) + division(0, 0)[:5])
     add("a weight cut short as the 301st", weight(1) * 301 + weight(1)[:40])
@@ -99,6 +157,8 @@ def endings():
     add("70000 divisions", many)
     add("70000 divisions, then an unknown operation", many + record(99) + THREE)
     add("70000 divisions, then a record cut short", many + THREE[:63])
+    add("10000 calls before fresh, then a book",
+        record(player.OPEN, 1) * 10000 + BOOK)
     return found
 
 
@@ -147,6 +207,7 @@ def main(arguments):
              THREE * 4 + record(99) + THREE * 4, size),
             ("cut short in pieces of %d bytes" % size,
              THREE * 4 + THREE[:100], size),
+            ("a book in pieces of %d bytes" % size, BOOK * 4, size),
         ]
     for name, data, size in runs:
         wanted = player.play(data)

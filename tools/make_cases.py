@@ -12,6 +12,7 @@ import os
 import random
 import sys
 
+import book_cases
 import calculation
 import player
 
@@ -26,15 +27,18 @@ LARGEST = WORD - 1
 
 
 class Cases:
-    """A growing list of records."""
+    """A growing list of records, each played as it is added."""
 
     def __init__(self):
         self.records = []
+        self.player = player.Player()
         self.kinds = {}  # kind of division -> how many
 
     def record(self, operation, *arguments):
+        """Adds a record: the numbers that it prints, or None."""
         words = (operation,) + arguments + (0,) * (7 - len(arguments))
         self.records.append(player.RECORD.pack(*words))
+        return self.player.play(self.records[-1])
 
     def division(self, pool, weights, share_count=None):
         """Appends the weights, then divides; equal lengths by default."""
@@ -395,15 +399,18 @@ def ending(cases):
     cases.record(99)
     cases.record(player.DIVIDE, 10, 1)
     reckoned_by_hand(cases)
+    cases.record(player.FRESH)
+    cases.record(player.DUMP, 0, 4)
     cases.record(99)
 
 
 def make():
-    """The cases and their output bytes."""
+    """All cases, and those of the book with what they tested."""
     cases = Cases()
     dividing_rule(cases)
+    of_book = book_cases.add(cases)
     ending(cases)
-    return cases, player.play(cases.data())
+    return cases, of_book
 
 
 def first_difference(path, fresh):
@@ -426,7 +433,8 @@ def main(arguments):
     if arguments not in ([], ["--check"]):
         print("usage: make_cases.py [--check]", file=sys.stderr)
         return 2
-    cases, output = make()
+    cases, of_book = make()
+    output = cases.player.output()
     files = ((STDIN, cases.data()), (STDOUT, output))
     if arguments:
         differences = [text for text in
@@ -445,6 +453,11 @@ def main(arguments):
         len(cases.records), len(files[0][1]), output.count(b"\n"), len(output)))
     for kind in KINDS:
         print("%6d %s" % (cases.kinds[kind], kind))
+    for name, numbers in book_cases.ANSWERS.items():
+        for number in numbers:
+            print("%6d %s gives %d" % (of_book.answers[name, number], name,
+                                       number))
+    print("%6d pairs of grounds in order" % len(of_book.pairs))
     return 0
 
 

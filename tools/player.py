@@ -10,12 +10,14 @@ seven arguments. An operation ignores the arguments that it does not use.
 import struct
 import sys
 
+import book
 import calculation
 
 RECORD = struct.Struct("<8Q")
 
 MOST_LISTED = 300  # room in the list of weights, and the longest share slice
 UNWRITTEN = 7      # what every word of a share slice holds before the call
+MOST_WORDS = 3000  # the array that the book lies in
 
 
 class BadRecord(Exception):
@@ -27,10 +29,23 @@ class State:
 
     def __init__(self):
         self.weights = []
+        self.words = [0] * MOST_WORDS
+        self.lent = MOST_WORDS  # how many of the words a call gets
 
 
 # Each operation takes the state and the seven arguments. It returns the
 # numbers of its line, or None where it prints nothing.
+
+def call_of_book(name):
+    """The operation that makes a call on the lent words."""
+    def operation(state, arguments):
+        lent = state.words[:state.lent]
+        numbers = book.make(name, lent,
+                            *arguments[:book.CALLS[name].arguments])
+        state.words[:state.lent] = lent
+        return numbers
+    return operation
+
 
 def divide(state, arguments):
     pool, share_count = arguments[:2]
@@ -50,12 +65,47 @@ def append_weight(state, arguments):
     return None
 
 
+def poke(state, arguments):
+    index, value = arguments[:2]
+    if index >= MOST_WORDS:
+        raise BadRecord
+    state.words[index] = value
+    return None
+
+
+def lend(state, arguments):
+    if arguments[0] > MOST_WORDS:
+        raise BadRecord
+    state.lent = arguments[0]
+    return None
+
+
+def dump(state, arguments):
+    first, count = arguments[:2]
+    if first + count > MOST_WORDS:
+        raise BadRecord
+    return state.words[first:first + count]
+
+
+FRESH, OPEN, POST, STRIKE, ENROL, QUOTE = 1, 2, 3, 4, 5, 6
 DIVIDE = 10
 APPEND_WEIGHT = 11
+POKE = 12
+LEND = 13
+DUMP = 14
 
 OPERATIONS = {
+    FRESH: call_of_book("fresh"),
+    OPEN: call_of_book("open"),
+    POST: call_of_book("post"),
+    STRIKE: call_of_book("strike"),
+    ENROL: call_of_book("enrol"),
+    QUOTE: call_of_book("quote"),
     DIVIDE: divide,
     APPEND_WEIGHT: append_weight,
+    POKE: poke,
+    LEND: lend,
+    DUMP: dump,
 }
 
 
@@ -69,19 +119,42 @@ def play_record(state, record):
     return OPERATIONS[words[0]](state, words[1:])
 
 
+class Player:
+    """Plays records one after another, up to a bad one."""
+
+    def __init__(self):
+        self.state = State()
+        self.lines = []
+        self.played = 0
+        self.ended = False
+
+    def play(self, record):
+        """Plays one record: the numbers that it prints, or None."""
+        if self.ended:
+            return None
+        self.played += 1
+        try:
+            numbers = play_record(self.state, record)
+        except BadRecord:
+            self.ended = True
+            self.lines.append("bad record %d\n" % self.played)
+            return None
+        if numbers is not None:
+            self.lines.append(" ".join(map(str, numbers)) + "\n")
+        return numbers
+
+    def output(self):
+        return "".join(self.lines).encode("ascii")
+
+
 def play(data):
     """The output bytes for the input bytes."""
-    state = State()
-    lines = []
+    player = Player()
     for start in range(0, len(data), RECORD.size):
-        try:
-            numbers = play_record(state, data[start:start + RECORD.size])
-        except BadRecord:
-            lines.append("bad record %d\n" % (start // RECORD.size + 1))
+        player.play(data[start:start + RECORD.size])
+        if player.ended:
             break
-        if numbers is not None:
-            lines.append(" ".join(map(str, numbers)) + "\n")
-    return "".join(lines).encode("ascii")
+    return player.output()
 
 
 if __name__ == "__main__":

@@ -11,6 +11,7 @@ import random
 import struct
 import sys
 
+import book_checks
 import calculation
 import player
 
@@ -226,4 +227,5 @@ refusals()
 small_numbers()
 random_numbers()
 played_records()
+book_checks.run(check)
 print("%d checks passed" % passed)

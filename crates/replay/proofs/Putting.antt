@@ -1,5 +1,5 @@
 -- The waiting bytes after a store to the output buffer, and after two texts. Assumes nothing.
-use Prim.Native.Nat.{ℕ, _+_, _≤_, _<_}
+use Prim.Native.Nat.{ℕ, _+_, _-_, _≤_, _<_}
 use native.Mathlib.Numerals.{add-one}
 use native.Mathlib.Omega.{arith}
 use mathlib.Core.Path.{_≡_, refl}
@@ -7,7 +7,7 @@ use mathlib.Core.List.{List, [], _∷_, _++_}
 use borrow.Author.Tests.{lt-ltb, le-ltb}
 use lib.ListN.{length, getD, take, drop, set}
 use lib.Seq.{length-take-le, take-all, take-suc-set, drop-cons}
-use Rattle.replay.specs.Text.{decimal, spaced, line, badRecord, badLine}
+use Rattle.replay.specs.Text.{decimal, spaced, line, numbersLine, badRecord, badLine}
 use Rattle.replay.specs.Waiting.{putByte, put}
 
 -- a store behind the waiting bytes
@@ -46,6 +46,19 @@ pub put-line : (bytes : List ℕ) (first : ℕ) (rest : List ℕ)
     → put bytes (line first rest) ≡ putByte (put (put bytes (decimal first)) (spaced rest)) 10
 unfolding line
 put-line bytes first rest = simp put-append
+
+-- a line of no numbers is the newline
+pub put-none : (bytes numbers : List ℕ) → length numbers ≡ 0 → putByte bytes 10 ≡ put bytes (numbersLine numbers)
+unfolding numbersLine
+put-none bytes [] h = refl
+put-none bytes (n ∷ ns) h = let z : ⊥ = omega arith in absurd z
+
+-- a line of some numbers is the first and the others
+pub put-some : (bytes numbers : List ℕ) → (length numbers ≡ 0 → ⊥)
+    → put bytes (line (getD numbers 0 0) (take (length numbers - 1) (drop 1 numbers))) ≡ put bytes (numbersLine numbers)
+unfolding numbersLine
+put-some bytes [] h = absurd (h refl)
+put-some bytes (n ∷ ns) h = rw (take-all (length (n ∷ ns) - 1) ns (omega arith))
 
 -- a bad record's line is its words, its number and the newline
 pub put-bad-line : (bytes : List ℕ) (number : ℕ)

@@ -1,4 +1,5 @@
 pub mod Words
 pub mod Text
 pub mod Waiting
+pub mod Answers
 pub mod Replay

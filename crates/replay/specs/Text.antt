@@ -23,6 +23,11 @@ spaced (n ∷ ns) = (32 ∷ decimal n) ++ spaced ns
 unfoldable pub line : ℕ → List ℕ → List ℕ
 line first rest = decimal first ++ (spaced rest ++ (10 ∷ []))
 
+-- the same of numbers of which there may be none
+unfoldable pub numbersLine : List ℕ → List ℕ
+numbersLine [] = 10 ∷ []
+numbersLine (n ∷ ns) = line n ns
+
 -- "bad record "
 unfoldable pub badRecord : List ℕ
 badRecord = 98 ∷ 97 ∷ 100 ∷ 32 ∷ 114 ∷ 101 ∷ 99 ∷ 111 ∷ 114 ∷ 100 ∷ 32 ∷ []

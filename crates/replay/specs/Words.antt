@@ -1,7 +1,8 @@
 -- The words of a record. Assumes nothing.
 use Prim.Native.Nat.{ℕ, _+_, _*_, _^_}
-use mathlib.Core.List.{List, [], _∷_}
+use mathlib.Core.List.{List}
 use lib.ListN.{getD}
+use Rattle.replay.specs.declared.records.Words.{Words}
 
 -- the number that the four bytes from `at` on spell, the least significant first; a byte past the end counts as 0
 abbrev pub littleEndian4 : List ℕ → ℕ → ℕ
@@ -13,14 +14,15 @@ abbrev pub littleEndian : List ℕ → ℕ → ℕ
 littleEndian bytes at = littleEndian4 bytes at + 2 ^ 32 * littleEndian4 bytes (at + 4)
 
 -- the eight words of a record: the operation and its seven arguments
-abbrev pub wordsOf : List ℕ → List ℕ
+abbrev pub wordsOf : List ℕ → Words
 wordsOf bytes =
-    littleEndian bytes 0
-    ∷ littleEndian bytes 8
-    ∷ littleEndian bytes 16
-    ∷ littleEndian bytes 24
-    ∷ littleEndian bytes 32
-    ∷ littleEndian bytes 40
-    ∷ littleEndian bytes 48
-    ∷ littleEndian bytes 56
-    ∷ []
+    record {
+      operation = littleEndian bytes 0;
+      first = littleEndian bytes 8;
+      second = littleEndian bytes 16;
+      third = littleEndian bytes 24;
+      fourth = littleEndian bytes 32;
+      fifth = littleEndian bytes 40;
+      sixth = littleEndian bytes 48;
+      seventh = littleEndian bytes 56;
+    }

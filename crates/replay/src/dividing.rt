@@ -1,11 +1,11 @@
 // Operations 10 and 11: the dividing rule over a list of weights.
 ghost use mathlib.Core.Path.{_≡_};
 ghost use mathlib.Core.List.{List};
-ghost use Prim.Native.Nat.{ℕ, min};
+ghost use Prim.Native.Nat.{ℕ};
 ghost use lib.ListN.{length};
 ghost use Rattle.apportion.specs.Dividing.{sharesAfter};
 ghost use Rattle.replay.specs.Waiting.{waitingIn, put};
-ghost use Rattle.replay.specs.Replay.{runOf, listed, dividedRun, answer as answerLine};
+ghost use Rattle.replay.specs.Replay.{room, runOf, listed, dividedRun, answer as answerLine};
 use crate::output;
 use crate::output::Buffer;
 use crate::output::Output;
@@ -19,45 +19,41 @@ pub type Weights = [u64; ROOM];
 
 // Operation 11: lists a weight.
 pub fn list_weight(weight: u64, weights: &mut [u64], state: State) -> State
-    ensures { λ r. ⌜ ((buffer : List ℕ) → runOf (now (weights .exit)) buffer r
-        ≡ listed (length (now (weights .entry))) weight (runOf (now (weights .entry)) buffer state)) ⌝ }
+    requires { ⌜ length (now weights) ≡ room ⌝ }
+    ensures { λ r. ⌜ ((array buffer : List ℕ) → runOf (now (weights .exit)) array buffer r
+        ≡ listed weight (runOf (now (weights .entry)) array buffer state)) ⌝ }
 {
     let count = state.count;
     if count >= weights.len() {
         return state::bad(state);
     }
     weights[count] = weight;
-    let output = state.output;
-    State {
-        count: count + 1,
-        good: state.good,
-        output,
-    }
+    let mut after = state;
+    after.count = count + 1;
+    after
 }
 
 // Operation 10: divides the pool over the listed weights, prints the answer and empties the list.
 pub fn divide(pool: u64, size: u64, weights: &[u64], buffer: &mut Buffer, state: State) -> State
-    ensures { λ r. ⌜ runOf (now (weights .entry)) (now (buffer .exit)) r
-        ≡ dividedRun pool size (runOf (now (weights .entry)) (now (buffer .entry)) state) ⌝ }
+    ensures { λ r. ⌜ ((array : List ℕ) → runOf (now (weights .entry)) array (now (buffer .exit)) r
+        ≡ dividedRun pool size (runOf (now (weights .entry)) array (now (buffer .entry)) state)) ⌝ }
 {
     if size > ROOM as u64 {
         return state::bad(state);
     }
     let mut shares = [7u64; ROOM];
-    let count = least(state.count, weights.len());
+    let count = state::least(state.count, weights.len());
     let output = state.output;
-    let after = answer(
+    let mut after = state;
+    after.count = 0;
+    after.output = answer(
         pool,
         &weights[..count],
         &mut shares[..size as usize],
         buffer,
         output,
     );
-    State {
-        count: 0,
-        good: state.good,
-        output: after,
-    }
+    after
 }
 
 // Divides the pool over the weights into the shares, and prints the refusal number and the shares.
@@ -74,10 +70,4 @@ fn answer(
 {
     let refusal = apportion::divide(pool, weights, shares);
     output::put_line(refusal, shares, buffer, output)
-}
-
-fn least(a: usize, b: usize) -> usize
-    ensures { λ r. ⌜ r ≡ min a b ⌝ }
-{
-    if a < b { a } else { b }
 }

@@ -1,6 +1,9 @@
 // What a record does, by its operation.
 ghost use mathlib.Core.Path.{_≡_};
 ghost use Rattle.replay.specs.Replay.{runOf, handled, performed};
+use crate::array;
+use crate::array::Array;
+use crate::calls;
 use crate::dividing;
 use crate::dividing::Weights;
 use crate::output::Buffer;
@@ -10,27 +13,43 @@ use crate::state;
 use crate::state::State;
 
 // Does what the record at the start of the bytes asks. One that is cut short is bad.
-pub fn handle(bytes: &[u8], weights: &mut Weights, buffer: &mut Buffer, state: State) -> State
-    ensures { λ r. ⌜ runOf (now (weights .exit)) (now (buffer .exit)) r
-        ≡ handled (now (bytes .entry)) (runOf (now (weights .entry)) (now (buffer .entry)) state) ⌝ }
+pub fn handle(
+    bytes: &[u8],
+    weights: &mut Weights,
+    array: &mut Array,
+    buffer: &mut Buffer,
+    state: State,
+) -> State
+    ensures { λ r. ⌜ runOf (now (weights .exit)) (now (array .exit)) (now (buffer .exit)) r
+        ≡ handled (now (bytes .entry)) (runOf (now (weights .entry)) (now (array .entry)) (now (buffer .entry)) state) ⌝ }
 {
     if bytes.len() < records::SIZE {
         return state::bad(state);
     }
-    perform(records::words(bytes), weights, buffer, state)
+    perform(records::read(bytes), weights, array, buffer, state)
 }
 
 // Does what the words of a record ask.
-fn perform(words: Words, weights: &mut Weights, buffer: &mut Buffer, state: State) -> State
-    ensures { λ r. ⌜ runOf (now (weights .exit)) (now (buffer .exit)) r
-        ≡ performed words (runOf (now (weights .entry)) (now (buffer .entry)) state) ⌝ }
+fn perform(
+    words: Words,
+    weights: &mut Weights,
+    array: &mut Array,
+    buffer: &mut Buffer,
+    state: State,
+) -> State
+    ensures { λ r. ⌜ runOf (now (weights .exit)) (now (array .exit)) (now (buffer .exit)) r
+        ≡ performed words (runOf (now (weights .entry)) (now (array .entry)) (now (buffer .entry)) state) ⌝ }
 {
-    let operation = words[0];
-    if operation == 10 {
-        return dividing::divide(words[1], words[2], weights, buffer, state);
+    let operation = words.operation;
+    if (1 <= operation) & (operation <= 6) {
+        return calls::call(words, array, buffer, state);
     }
-    if operation == 11 {
-        return dividing::list_weight(words[1], weights, state);
+    match operation {
+        10 => dividing::divide(words.first, words.second, weights, buffer, state),
+        11 => dividing::list_weight(words.first, weights, state),
+        12 => array::poke(words.first, words.second, array, state),
+        13 => array::lend(words.first, state),
+        14 => array::dump(words.first, words.second, array, buffer, state),
+        _ => state::bad(state),
     }
-    state::bad(state)
 }

@@ -1,7 +1,7 @@
 // The output buffer: bytes that wait to be written to standard output.
 ghost use mathlib.Core.Path.{_≡_};
 ghost use lib.ListN.{length};
-ghost use Rattle.replay.specs.Text.{decimal, line, badLine};
+ghost use Rattle.replay.specs.Text.{decimal, line, numbersLine, badLine};
 ghost use Rattle.replay.specs.Waiting.{Flushed, waitingIn, putByte, put};
 use libc::STDOUT_FILENO;
 
@@ -100,6 +100,17 @@ pub fn put_line(first: u64, rest: &[u64], buffer: &mut Buffer, output: Output) -
         i += 1;
     }
     put_byte(b'\n', buffer, current)
+}
+
+// Puts a line of numbers, of which there may be none.
+pub fn put_numbers(numbers: &[u64], buffer: &mut Buffer, output: Output) -> Output
+    ensures { λ r. ⌜ waitingIn (now (buffer .exit)) r
+        ≡ put (waitingIn (now (buffer .entry)) output) (numbersLine (now (numbers .entry))) ⌝ }
+{
+    if numbers.len() == 0 {
+        return put_byte(b'\n', buffer, output);
+    }
+    put_line(numbers[0], &numbers[1..], buffer, output)
 }
 
 // Puts the line of a bad record.

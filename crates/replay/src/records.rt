@@ -8,22 +8,31 @@ ghost use Rattle.replay.specs.Words.{littleEndian, littleEndian4, wordsO
 pub const SIZE: usize = 64;
 
 // The operation and its seven arguments.
-pub type Words = [u64; 8];
+pub struct Words {
+    pub operation: u64,
+    pub first: u64,
+    pub second: u64,
+    pub third: u64,
+    pub fourth: u64,
+    pub fifth: u64,
+    pub sixth: u64,
+    pub seventh: u64,
+}
 
 // The eight words that 64 bytes spell, each the least significant byte first.
-pub fn words(bytes: &[u8]) -> Words
+pub fn read(bytes: &[u8]) -> Words
     ensures { λ r. ⌜ r ≡ wordsOf (now (bytes .entry)) ⌝ }
 {
-    [
-        word(bytes, 0),
-        word(bytes, 8),
-        word(bytes, 16),
-        word(bytes, 24),
-        word(bytes, 32),
-        word(bytes, 40),
-        word(bytes, 48),
-        word(bytes, 56),
-    ]
+    Words {
+        operation: word(bytes, 0),
+        first: word(bytes, 8),
+        second: word(bytes, 16),
+        third: word(bytes, 24),
+        fourth: word(bytes, 32),
+        fifth: word(bytes, 40),
+        sixth: word(bytes, 48),
+        seventh: word(bytes, 56),
+    }
 }
 
 fn word(bytes: &[u8], at: usize) -> u64

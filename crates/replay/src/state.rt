@@ -1,9 +1,11 @@
-// What is kept from record to record, beside the listed weights and the waiting bytes.
+// What is kept from record to record, beside the listed weights, the book's array and the waiting bytes.
 ghost use mathlib.Core.Path.{_≡_};
 ghost use mathlib.Core.Bool.{true};
 ghost use mathlib.Core.List.{List};
-ghost use Prim.Native.Nat.{ℕ};
-ghost use Rattle.replay.specs.Replay.{runOf, started, stopped, bad as badRun};
+ghost use Prim.Native.Nat.{ℕ, min};
+ghost use lib.ListN.{replicate};
+ghost use Rattle.replay.specs.Replay.{arrayLength, runOf, started, stopped, bad as badRun};
+use crate::array;
 use crate::output;
 use crate::output::Buffer;
 use crate::output::Output;
@@ -11,20 +13,23 @@ use crate::output::Output;
 pub struct State {
     // How many weights are listed.
     pub count: usize,
+    // How many words of the array are lent to the book's calls.
+    pub lent: usize,
     // False after a bad record.
     pub good: bool,
     // Where the waiting bytes end.
     pub output: Output,
 }
 
-// Before the first record: no weight is listed, and no byte waits.
+// Before the first record: no weight is listed, the whole array is lent, and no byte waits.
 pub fn first() -> State
-    ensures { λ r. ⌜ ((weights buffer : List ℕ) → runOf weights buffer r ≡ started) ⌝ }
+    ensures { λ r. ⌜ ((weights buffer : List ℕ) → runOf weights (replicate arrayLength 0) buffer r ≡ started) ⌝ }
     ensures { λ r. ⌜ r .output .ok ≡ true ⌝ }
 {
     let output = Output { at: 0, ok: true };
     State {
         count: 0,
+        lent: array::LENGTH,
         good: true,
         output,
     }
@@ -32,26 +37,28 @@ pub fn first() -> State
 
 // The record is bad.
 pub fn bad(state: State) -> State
-    ensures { λ r. ⌜ ((weights buffer : List ℕ) → runOf weights buffer r ≡ badRun (runOf weights buffer state)) ⌝ }
+    ensures { λ r. ⌜ ((weights array buffer : List ℕ) → runOf weights array buffer r ≡ badRun (runOf weights array buffer state)) ⌝ }
 {
-    let output = state.output;
-    State {
-        count: state.count,
-        good: false,
-        output,
-    }
+    let mut after = state;
+    after.good = false;
+    after
 }
 
 // Prints the line of a bad record.
 pub fn stop(number: u64, buffer: &mut Buffer, state: State) -> State
-    ensures { λ r. ⌜ ((weights : List ℕ) → runOf weights (now (buffer .exit)) r
-        ≡ stopped number (runOf weights (now (buffer .entry)) state)) ⌝ }
+    ensures { λ r. ⌜ ((weights array : List ℕ) → runOf weights array (now (buffer .exit)) r
+        ≡ stopped number (runOf weights array (now (buffer .entry)) state)) ⌝ }
 {
     let output = state.output;
-    let after = output::put_bad_record(number, buffer, output);
-    State {
-        count: state.count,
-        good: false,
-        output: after,
-    }
+    let mut after = state;
+    after.good = false;
+    after.output = output::put_bad_record(number, buffer, output);
+    after
+}
+
+// A count that the state keeps, within an array of this length.
+pub fn least(count: usize, length: usize) -> usize
+    ensures { λ r. ⌜ r ≡ min count length ⌝ }
+{
+    if count < length { count } else { length }
 }

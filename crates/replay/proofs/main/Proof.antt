@@ -8,11 +8,11 @@ use Rattle.replay.proofs.main.Statement.{statement}
 use Rattle.replay.proofs.main.Tie as tie
 
 abbrev Inv-loop : tie.InvT-loop
-Inv-loop chunk₀ buffer₀ weights₀ state₀ passed₀ turns₀ chunk buffer weights state passed turns =
+Inv-loop chunk₀ buffer₀ weights₀ array₀ state₀ passed₀ turns₀ chunk buffer weights array state passed turns =
     (length chunk ≡ 65_536) × (passed + 65_536 * turns < 2 ^ 64)
 
 abbrev μ-loop : tie.MeasureT-loop
-μ-loop chunk₀ buffer₀ weights₀ state₀ passed₀ turns₀ chunk buffer weights state passed turns = turns
+μ-loop chunk₀ buffer₀ weights₀ array₀ state₀ passed₀ turns₀ chunk buffer weights array state passed turns = turns
 
 large-buffer-requires : tie.Need-large-buffer-requires Inv-loop μ-loop
 large-buffer-requires c κs = search needs

@@ -15,16 +15,16 @@ use Rattle.replay.proofs.run.Statement.{statement}
 use Rattle.replay.proofs.run.Tie as tie
 
 abbrev Inv-loop : tie.InvT-loop
-Inv-loop passed chunk weights₀ buffer₀ state₀ number₀ at₀ weights buffer state number at =
-    (replayed number (drop at chunk) (runOf weights buffer state) ≡ replayed passed chunk (runOf weights₀ buffer₀ state₀))
+Inv-loop passed chunk weights₀ array₀ buffer₀ state₀ number₀ at₀ weights array buffer state number at =
+    (replayed number (drop at chunk) (runOf weights array buffer state) ≡ replayed passed chunk (runOf weights₀ array₀ buffer₀ state₀))
     × (number + (length chunk - at) ≤ passed + length chunk)
 
 abbrev μ-loop : tie.MeasureT-loop
-μ-loop passed chunk weights₀ buffer₀ state₀ number₀ at₀ weights buffer state number at = length chunk - at
+μ-loop passed chunk weights₀ array₀ buffer₀ state₀ number₀ at₀ weights array buffer state number at = length chunk - at
 
 -- the head of a turn, and the bytes that are left there
 abbrev head : tie.After-handle Inv-loop μ-loop → tie.At-loop Inv-loop μ-loop
-head c = c .before .before .before .before .before
+head c = c .before .before .before .before .before .before
 
 abbrev left : tie.After-handle Inv-loop μ-loop → List ℕ
 left c = drop (head c .loop .at) (head c .before .before .args .chunk .now)
@@ -34,8 +34,8 @@ more c = rw length-drop (omega arith)
 
 -- the first record of those bytes is handled
 done : (c : tie.After-handle Inv-loop μ-loop)
-    → runOf (c .handle .last .1 .0) (c .handle .last .1 .1 .0) (c .handle .result)
-    ≡ handled (left c) (runOf (head c .loop .weights) (head c .loop .buffer) (head c .loop .state))
+    → runOf (c .handle .last .1 .0) (c .handle .last .1 .1 .0) (c .handle .last .1 .1 .1 .0) (c .handle .result)
+    ≡ handled (left c) (runOf (head c .loop .weights) (head c .loop .array) (head c .loop .buffer) (head c .loop .state))
 done c =
     let all = le-of-eq (length-drop (head c .loop .at) (head c .before .before .args .chunk .now)) in
     rw (take-all _ (left c) all) at (c .handle .ensures)
@@ -65,7 +65,7 @@ returns : tie.Need-returns Inv-loop μ-loop
 returns c ok =
     let bad = c .before .before in
     let turn = bad .before .before in
-    c .stop .ensures _
+    c .stop .ensures _ _
     ∙ replay-stop (head turn .loop .number) (left turn) _ _ (more turn) (done turn) (not-true _ (bad .if1 .taken))
     ∙ head turn .loop .inv .0
 
@@ -85,7 +85,7 @@ loop-again c =
       rw (← drop-drop)
           (replay-on (head turn .loop .number) (left turn) _ _ (more turn) (done turn) (not-false _ (good .if1 .left))
           ∙ head turn .loop .inv .0),
-      omega arith,
+      omega (arith, head turn .loop .inv .1, more turn),
     )
 
 returns-3 : tie.Need-returns-3 Inv-loop μ-loop

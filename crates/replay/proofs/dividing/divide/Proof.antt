@@ -1,9 +1,11 @@
 -- `replay::dividing::divide` meets its contract. Assumes nothing.
 use native.Mathlib.Omega.{arith}
-use mathlib.Core.Path.{sym, _∙_}
+use mathlib.Core.Path.{sym}
 use borrow.Author.Needs.{needs}
+use borrow.Author.Tests.{lt-leb}
 use lib.Seq.{length-take-le}
-use Rattle.replay.proofs.Runs.{divide-good, divide-bad}
+use Rattle.replay.specs.Replay.{room, dividedRun}
+use Rattle.replay.proofs.Runs.{divide-good}
 use Rattle.replay.proofs.dividing.divide.Statement.{statement}
 use Rattle.replay.proofs.dividing.divide.Tie as tie
 
@@ -11,10 +13,8 @@ bad-requires : tie.Need-bad-requires
 bad-requires c κs = search needs
 
 returns : tie.Need-returns
-returns c =
-    let long = c .before in
-    let start = long .before .before in
-    c .bad .ensures _ _ ∙ divide-bad (start .args .pool) (start .args .size) _ (long .if1 .taken)
+unfolding dividedRun
+returns c array = rw (lt-leb _ room (c .before .if1 .taken)) (c .bad .ensures _ array _)
 
 least-requires : tie.Need-least-requires
 least-requires c κs = search needs
@@ -32,12 +32,12 @@ answer-requires : tie.Need-answer-requires
 answer-requires c κs = search needs
 
 returns-2 : tie.Need-returns-2
-returns-2 c =
+returns-2 c array =
     let put = c .before in
     let counted = put .before .before .before .before .before in
     let fits = counted .before in
     let args = fits .before .before .args in
-    divide-good (args .pool) (args .size) (counted .least .result) (args .weights .now) (args .buffer .now) _ (args .state)
+    divide-good (args .pool) (args .size) (counted .least .result) (args .weights .now) array (args .buffer .now) _ (args .state)
     (put .answer .result)
     (fits .if1 .left)
     (counted .least .ensures)

@@ -9,11 +9,11 @@ bad-requires : tie.Need-bad-requires
 bad-requires c κs = search needs
 
 returns : tie.Need-returns
-returns c buffer =
+returns c array buffer =
     let full = c .before in
     let start = full .before .before in
-    c .bad .ensures _ buffer
-    ∙ list-full (start .args .weights .now) buffer (start .args .state) (start .args .weight) (full .if1 .taken)
+    c .bad .ensures _ array buffer
+    ∙ list-full (start .args .weights .now) array buffer (start .args .state) (start .args .weight) (start .pre) (full .if1 .taken)
 
 mul-weights : tie.Need-mul-weights
 mul-weights c = search needs
@@ -21,19 +21,18 @@ mul-weights c = search needs
 slice-write-weights : tie.Need-slice-write-weights
 slice-write-weights c = search needs
 
-add-t6 : tie.Need-add-t6
-add-t6 c = search needs
+add-after : tie.Need-add-after
+add-after c = search needs
 
 same-length : tie.Need-same-length
 same-length c = search needs
 
 returns-2 : tie.Need-returns-2
-returns-2 c buffer =
-    let room = c .before in
-    let start = room .before .before in
-    list-good (start .args .weights .now) buffer (start .args .state) (start .args .weight) (room .if1 .left)
+returns-2 c array buffer =
+    let start = c .before .before in
+    list-good (start .args .weights .now) array buffer (start .args .state) (start .args .weight) (start .pre) (c .if1 .left)
 
 pub list-weight-spec : {M : Type 1} → statement M
 list-weight-spec =
     tie.close
-    (tie.spec bad-requires returns mul-weights slice-write-weights add-t6 same-length returns-2)
+    (tie.spec bad-requires returns mul-weights slice-write-weights add-after same-length returns-2)

@@ -10,10 +10,10 @@ bad-requires c κs = search needs
 
 returns : tie.Need-returns
 unfolding handled
-returns c = rw (lt-ltb _ 64 (c .before .if1 .taken)) (c .bad .ensures _ _)
+returns c = rw (lt-ltb _ 64 (c .before .if1 .taken)) (c .bad .ensures _ _ _)
 
-words-requires : tie.Need-words-requires
-words-requires c κs = search needs
+read-requires : tie.Need-read-requires
+read-requires c κs = search needs
 
 perform-requires : tie.Need-perform-requires
 perform-requires c κs = search needs
@@ -21,8 +21,8 @@ perform-requires c κs = search needs
 returns-2 : tie.Need-returns-2
 unfolding handled
 returns-2 c =
-    let read = c .before .before .before in
-    rw (le-ltb _ 64 (read .before .if1 .left), ← read .words .ensures) (c .perform .ensures)
+    let made = c .before .before .before .before in
+    rw (le-ltb _ 64 (made .before .if1 .left), ← made .read .ensures) (c .perform .ensures)
 
 pub handle-spec : {M : Type 1} → statement M
-handle-spec = tie.close (tie.spec bad-requires returns words-requires perform-requires returns-2)
+handle-spec = tie.close (tie.spec bad-requires returns read-requires perform-requires returns-2)

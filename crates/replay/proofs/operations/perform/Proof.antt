@@ -1,61 +1,84 @@
 -- `replay::operations::perform` meets its contract: each operation is as its function ensures. Assumes nothing.
-use native.Mathlib.Omega.{arith}
-use mathlib.Core.Path.{_≡_}
-use lib.ListN.{length}
 use borrow.Author.Needs.{needs}
-use borrow.Author.Tests.{eq-eqb, ne-eqb}
-use Rattle.replay.specs.Replay.{room, performed}
+use borrow.Author.Tests.{ne-eqb}
+use Rattle.replay.specs.Replay.{performed}
 use Rattle.replay.proofs.operations.perform.Statement.{statement}
 use Rattle.replay.proofs.operations.perform.Tie as tie
 
-array-read-operation : tie.Need-array-read-operation
-array-read-operation c = search needs
+call-requires : tie.Need-call-requires
+call-requires c κs = search needs
 
-array-read-divide : tie.Need-array-read-divide
-array-read-divide c = search needs
-
-array-read-divide-2 : tie.Need-array-read-divide-2
-array-read-divide-2 c = search needs
+returns : tie.Need-returns
+unfolding performed
+returns c = rw (c .before .before .before .if1 .taken) (c .call .ensures _)
 
 divide-requires : tie.Need-divide-requires
 divide-requires c κs = search needs
 
-returns : tie.Need-returns
-unfolding performed
-returns c = rw (eq-eqb _ 10 (c .before .before .before .before .if1 .taken)) (c .divide .ensures)
-
-array-read-list-weight : tie.Need-array-read-list-weight
-array-read-list-weight c = search needs
-
 list-weight-requires : tie.Need-list-weight-requires
 list-weight-requires c κs = search needs
 
-returns-2 : tie.Need-returns-2
-unfolding performed
-returns-2 c =
-    let listing = c .before .before in
-    let start = listing .before .before in
-    let size : length (start .args .weights .now) ≡ room = omega arith in
-    rw (ne-eqb _ 10 (listing .before .if1 .left), eq-eqb _ 11 (listing .if2 .taken), ← size) (c .list-weight .ensures _)
+poke-requires : tie.Need-poke-requires
+poke-requires c κs = search needs
+
+lend-requires : tie.Need-lend-requires
+lend-requires c κs = search needs
+
+dump-requires : tie.Need-dump-requires
+dump-requires c κs = search needs
 
 bad-requires : tie.Need-bad-requires
 bad-requires c κs = search needs
 
+returns-2 : tie.Need-returns-2
+unfolding performed
+returns-2 c = rw (c .before .before .before .before .match .keys1) (c .divide .ensures _)
+
 returns-3 : tie.Need-returns-3
 unfolding performed
-returns-3 c = rw (ne-eqb _ 10 (c .before .before .if1 .left), ne-eqb _ 11 (c .before .if2 .left)) (c .bad .ensures _ _)
+returns-3 c = rw (c .before .before .match .keys2) (c .list-weight .ensures _ _)
+
+returns-4 : tie.Need-returns-4
+unfolding performed
+returns-4 c = rw (c .before .before .match .keys3) (c .poke .ensures _ _)
+
+returns-5 : tie.Need-returns-5
+unfolding performed
+returns-5 c = rw (c .before .match .keys4) (c .lend .ensures _ _ _)
+
+returns-6 : tie.Need-returns-6
+unfolding performed
+returns-6 c = rw (c .before .before .before .before .match .keys5) (c .dump .ensures _)
+
+returns-7 : tie.Need-returns-7
+unfolding performed
+returns-7 c =
+    let other = c .before .match .rest in
+    rw (
+      c .before .before .if1 .left,
+      ne-eqb _ 10 (other .0 .0 .0 .0 .1),
+      ne-eqb _ 11 (other .0 .0 .0 .1),
+      ne-eqb _ 12 (other .0 .0 .1),
+      ne-eqb _ 13 (other .0 .1),
+      ne-eqb _ 14 (other .1),
+    )
+    (c .bad .ensures _ _ _)
 
 pub perform-spec : {M : Type 1} → statement M
 perform-spec =
     tie.close
     (tie.spec
-    array-read-operation
-    array-read-divide
-    array-read-divide-2
-    divide-requires
+    call-requires
     returns
-    array-read-list-weight
+    divide-requires
     list-weight-requires
-    returns-2
+    poke-requires
+    lend-requires
+    dump-requires
     bad-requires
-    returns-3)
+    returns-2
+    returns-3
+    returns-4
+    returns-5
+    returns-6
+    returns-7)

@@ -7,7 +7,7 @@ put-bad-record-requires : tie.Need-put-bad-record-requires
 put-bad-record-requires c κs = search needs
 
 returns : tie.Need-returns
-returns c weights = rw (c .put-bad-record .ensures)
+returns c weights array = rw (c .put-bad-record .ensures)
 
 pub stop-spec : {M : Type 1} → statement M
 stop-spec = tie.close (tie.spec put-bad-record-requires returns)

@@ -1,8 +1,8 @@
--- `replay::records::words` meets its contract: each word is as `word` ensures.
+-- `replay::records::read` meets its contract: each word is as `word` ensures.
 -- Assumes nothing.
 use borrow.Author.Needs.{needs}
-use Rattle.replay.proofs.records.words.Statement.{statement}
-use Rattle.replay.proofs.records.words.Tie as tie
+use Rattle.replay.proofs.records.read.Statement.{statement}
+use Rattle.replay.proofs.records.read.Tie as tie
 
 word-requires : tie.Need-word-requires
 word-requires c κs = search needs
@@ -29,10 +29,26 @@ word-requires-8 : tie.Need-word-requires-8
 word-requires-8 c κs = search needs
 
 returns : tie.Need-returns
-returns c = cc
+returns c =
+    let c7 = c .before in
+    let c6 = c7 .before in
+    let c5 = c6 .before in
+    let c4 = c5 .before in
+    let c3 = c4 .before in
+    let c2 = c3 .before in
+    rw (
+      c2 .before .word .ensures,
+      c2 .word2 .ensures,
+      c3 .word3 .ensures,
+      c4 .word4 .ensures,
+      c5 .word5 .ensures,
+      c6 .word6 .ensures,
+      c7 .word7 .ensures,
+      c .word8 .ensures,
+    )
 
-pub words-spec : {M : Type 1} → statement M
-words-spec =
+pub read-spec : {M : Type 1} → statement M
+read-spec =
     tie.close
     (tie.spec
     word-requires

@@ -1,0 +1,176 @@
+-- What holds where a call is accepted: none of its grounds does. Assumes nothing.
+use mathlib.Core.Bool.{false, true, not, _&&_, _||_}
+use mathlib.Core.List.{List}
+use mathlib.Core.Path.{_≡_}
+use Prim.Native.Nat.{_-_, ℕ, _<_, _+_, _*_, _≤_}
+use lib.Dec.{eqb, leb, ltb}
+use borrow.Author.Tests.{eqb-true, not-false, leb-false, ltb-false}
+use Rattle.apportion.specs.Dividing.{largest}
+use Rattle.book_words.specs.Book.{categoryOf, categories, mostCategories, entries, mostEntries, entryAt, elements, mostElements}
+use Rattle.book_words.specs.Measures.{isKind, between, isGroup, unsuitedGroup, unsuited, isQuantity, isFactor, isChain, isCode, isAmount, isDistance, counted, isIntensity}
+use Rattle.book_words.specs.Soundness.{sound}
+use Rattle.book_words.specs.Totals.{operation, provision, emitted, passesAmounts, activities, mostActivity, passesActivity}
+use Rattle.book.specs.Calls.{isClosed, openRefusal, postRefusal, unnumbered, strikeRefusal, enrolledElement, enrolRefusal, quotedAmount, quotedElement, quoteRefusal}
+use Rattle.apportion.proofs.Grounds.{first-none, or-none}
+use Rattle.book_words.proofs.Booleans.{both}
+
+-- a category that is not closed
+pub unclosed-zero : (ws : List ℕ) (category : ℕ) → isClosed ws category ≡ false → categoryOf ws category .closed ≡ 0
+unclosed-zero ws category e = eqb-true (categoryOf ws category .closed) 0 (not-false (eqb (categoryOf ws category .closed) 0) e)
+
+module _ (ws : List ℕ) where
+  pub record Opened (kind : ℕ) : Type 0 where
+    pub fine : sound ws ≡ true
+    pub known : isKind kind ≡ true
+    pub room : categories ws < mostCategories
+
+  pub opened : (kind : ℕ) → openRefusal ws kind ≡ 0 → Opened kind
+  unfolding openRefusal
+  opened kind e =
+      let one = first-none 0 (not (sound ws)) _ e in
+      let three = first-none 2 (not (isKind kind)) _ (one .1) in
+      let eight = first-none 7 (leb mostCategories (categories ws)) _ (three .1) in
+      record {
+        fine = not-false (sound ws) (one .0);
+        known = not-false (isKind kind) (three .0);
+        room = leb-false mostCategories (categories ws) (eight .0);
+      }
+
+  pub record Posted (category group quantity operationFactor provisionFactor : ℕ) : Type 0 where
+    pub fine : sound ws ≡ true
+    pub numbered : between 1 (categories ws) category ≡ true
+    pub known : isGroup group ≡ true
+    pub unclosed : isClosed ws category ≡ false
+    pub suited : unsuitedGroup (categoryOf ws category .kind) group ≡ false
+    pub room : entries ws < mostEntries
+    pub operation-within : emitted ws operation + quantity * operationFactor ≤ largest
+    pub provision-within : emitted ws provision + quantity * provisionFactor ≤ largest
+
+  pub posted : (category group quantity operationFactor provisionFactor : ℕ) → postRefusal ws category group quantity operationFactor provisionFactor ≡ 0
+      → Posted category group quantity operationFactor provisionFactor
+  unfolding postRefusal
+  posted category group quantity operationFactor provisionFactor e =
+      let one = first-none 0 (not (sound ws)) _ e in
+      let two = first-none 1 (unnumbered (categories ws) category) _ (one .1) in
+      let three = first-none 2 (not (isGroup group)) _ (two .1) in
+      let four = first-none 3 (isClosed ws category) _ (three .1) in
+      let six = first-none 5 (unsuitedGroup (categoryOf ws category .kind) group) _ (four .1) in
+      let seven = first-none 6 (not (isQuantity quantity && isFactor operationFactor && isFactor provisionFactor)) _ (six .1) in
+      let eight = first-none 7 (leb mostEntries (entries ws)) _ (seven .1) in
+      let ten = first-none 9 (passesAmounts ws (quantity * operationFactor) (quantity * provisionFactor)) _ (eight .1) in
+      let past = or-none (ltb largest (emitted ws operation + quantity * operationFactor)) (ltb largest (emitted ws provision + quantity * provisionFactor)) (ten .0) in
+      record {
+        fine = not-false (sound ws) (one .0);
+        numbered = not-false (between 1 (categories ws) category) (two .0);
+        known = not-false (isGroup group) (three .0);
+        unclosed = four .0;
+        suited = six .0;
+        room = leb-false mostEntries (entries ws) (eight .0);
+        operation-within = ltb-false largest (emitted ws operation + quantity * operationFactor) (past .0);
+        provision-within = ltb-false largest (emitted ws provision + quantity * provisionFactor) (past .1);
+      }
+
+  pub record Struck (entry : ℕ) : Type 0 where
+    pub fine : sound ws ≡ true
+    pub numbered : between 1 (entries ws) entry ≡ true
+    pub unclosed : isClosed ws (entryAt ws (entry - 1) .category) ≡ false
+    pub unstruck-yet : entryAt ws (entry - 1) .struck ≡ 0
+
+  pub struck : (entry : ℕ) → strikeRefusal ws entry ≡ 0 → Struck entry
+  unfolding strikeRefusal
+  struck entry e =
+      let one = first-none 0 (not (sound ws)) _ e in
+      let two = first-none 1 (unnumbered (entries ws) entry) _ (one .1) in
+      let four = first-none 3 (isClosed ws (entryAt ws (entry - 1) .category) || not (eqb (entryAt ws (entry - 1) .struck) 0)) _ (two .1) in
+      let parts = or-none (isClosed ws (entryAt ws (entry - 1) .category)) (not (eqb (entryAt ws (entry - 1) .struck) 0)) (four .0) in
+      record {
+        fine = not-false (sound ws) (one .0);
+        numbered = not-false (between 1 (entries ws) entry) (two .0);
+        unclosed = parts .0;
+        unstruck-yet = eqb-true (entryAt ws (entry - 1) .struck) 0 (not-false (eqb (entryAt ws (entry - 1) .struck) 0) (parts .1));
+      }
+
+  pub record Enrolled (category chain code amount distance : ℕ) : Type 0 where
+    pub fine : sound ws ≡ true
+    pub numbered : between 1 (categories ws) category ≡ true
+    pub known-chain : isChain chain ≡ true
+    pub known-code : isCode code ≡ true
+    pub unclosed : isClosed ws category ≡ false
+    pub suited : unsuited (categoryOf ws category .kind) code ≡ false
+    pub amount-fine : isAmount code amount ≡ true
+    pub distance-fine : isDistance (categoryOf ws category .kind) distance ≡ true
+    pub room : elements ws < mostElements
+    pub within : activities ws + counted (enrolledElement ws category chain code amount distance) ≤ mostActivity
+
+  pub enrolled : (category chain code amount distance : ℕ) → enrolRefusal ws category chain code amount distance ≡ 0
+      → Enrolled category chain code amount distance
+  unfolding enrolRefusal
+  enrolled category chain code amount distance e =
+      let kind = categoryOf ws category .kind in
+      let one = first-none 0 (not (sound ws)) _ e in
+      let two = first-none 1 (unnumbered (categories ws) category) _ (one .1) in
+      let three = first-none 2 (not (isChain chain && isCode code)) _ (two .1) in
+      let four = first-none 3 (isClosed ws category) _ (three .1) in
+      let six = first-none 5 (unsuited kind code) _ (four .1) in
+      let seven = first-none 6 (not (isAmount code amount && isDistance kind distance)) _ (six .1) in
+      let eight = first-none 7 (leb mostElements (elements ws)) _ (seven .1) in
+      let ten = first-none 9 (passesActivity ws (enrolledElement ws category chain code amount distance)) _ (eight .1) in
+      let known = both (isChain chain) (isCode code) (not-false (isChain chain && isCode code) (three .0)) in
+      let fine = both (isAmount code amount) (isDistance kind distance) (not-false (isAmount code amount && isDistance kind distance) (seven .0)) in
+      record {
+        fine = not-false (sound ws) (one .0);
+        numbered = not-false (between 1 (categories ws) category) (two .0);
+        known-chain = known .0;
+        known-code = known .1;
+        unclosed = four .0;
+        suited = six .0;
+        amount-fine = fine .0;
+        distance-fine = fine .1;
+        room = leb-false mostElements (elements ws) (eight .0);
+        within = ltb-false mostActivity (activities ws + counted (enrolledElement ws category chain code amount distance)) (ten .0);
+      }
+
+  pub record Quoted (chain adjust mass distance operationIntensity provisionIntensity : ℕ) : Type 0 where
+    pub fine : sound ws ≡ true
+    pub known-chain : isChain chain ≡ true
+    pub amount-fine : isAmount 0 mass ≡ true
+    pub distance-fine : isDistance 1 distance ≡ true
+    pub operation-fine : isIntensity operationIntensity ≡ true
+    pub provision-fine : isIntensity provisionIntensity ≡ true
+    pub room : elements ws < mostElements
+    pub operation-within : emitted ws operation + quotedAmount adjust mass distance operationIntensity ≤ largest
+    pub provision-within : emitted ws provision + quotedAmount adjust mass distance provisionIntensity ≤ largest
+    pub within : activities ws + counted (quotedElement chain adjust mass distance operationIntensity provisionIntensity) ≤ mostActivity
+
+  pub quoted : (chain adjust mass distance operationIntensity provisionIntensity : ℕ) → quoteRefusal ws chain adjust mass distance operationIntensity provisionIntensity ≡ 0
+      → Quoted chain adjust mass distance operationIntensity provisionIntensity
+  unfolding quoteRefusal
+  quoted chain adjust mass distance operationIntensity provisionIntensity e =
+      let byOperation = quotedAmount adjust mass distance operationIntensity in
+      let byProvision = quotedAmount adjust mass distance provisionIntensity in
+      let element = quotedElement chain adjust mass distance operationIntensity provisionIntensity in
+      let sizes = isAmount 0 mass && isDistance 1 distance in
+      let intensities = isIntensity operationIntensity in
+      let one = first-none 0 (not (sound ws)) _ e in
+      let three = first-none 2 (not (isChain chain && leb adjust 1)) _ (one .1) in
+      let seven = first-none 6 (not (sizes && intensities && isIntensity provisionIntensity)) _ (three .1) in
+      let eight = first-none 7 (leb mostElements (elements ws)) _ (seven .1) in
+      let ten = first-none 9 (passesAmounts ws byOperation byProvision || passesActivity ws element) _ (eight .1) in
+      let known = both (isChain chain) (leb adjust 1) (not-false (isChain chain && leb adjust 1) (three .0)) in
+      let all = both (sizes && intensities) (isIntensity provisionIntensity) (not-false (sizes && intensities && isIntensity provisionIntensity) (seven .0)) in
+      let most = both sizes intensities (all .0) in
+      let some = both (isAmount 0 mass) (isDistance 1 distance) (most .0) in
+      let past = or-none (passesAmounts ws byOperation byProvision) (passesActivity ws element) (ten .0) in
+      let amounts = or-none (ltb largest (emitted ws operation + byOperation)) (ltb largest (emitted ws provision + byProvision)) (past .0) in
+      record {
+        fine = not-false (sound ws) (one .0);
+        known-chain = known .0;
+        amount-fine = some .0;
+        distance-fine = some .1;
+        operation-fine = most .1;
+        provision-fine = all .1;
+        room = leb-false mostElements (elements ws) (eight .0);
+        operation-within = ltb-false largest (emitted ws operation + byOperation) (amounts .0);
+        provision-within = ltb-false largest (emitted ws provision + byProvision) (amounts .1);
+        within = ltb-false mostActivity (activities ws + counted element) (past .1);
+      }

@@ -1,0 +1,338 @@
+-- An accepted call leaves a sound book sound. Assumes nothing.
+use mathlib.Core.Bool.{true, cond, not, _&&_}
+use mathlib.Core.List.{List}
+use mathlib.Core.Logic.{⊎-elim, _⊎_, inr, inl}
+use mathlib.Core.Path.{_≡_, sym, _∙_, ap, refl}
+use Prim.Native.Nat.{ℕ, _-_, _≤_, _<_, _+_}
+use native.Mathlib.Nat.{eq-zero-or-pos, add-zero}
+use native.Mathlib.Omega.{arith}
+use lib.Dec.{leb, eqb}
+use borrow.Author.Tests.{le-leb, ne-eqb}
+use Rattle.apportion.specs.Dividing.{largest}
+use Rattle.apportion.specs.Places.{sumBelow}
+use Rattle.book_words.specs.Book.{categories, categoryAt, categoryOf, entries, entryAt, elements, elementAt, mostCategories, mostEntries, mostElements}
+use Rattle.book_words.specs.Measures.{between, counted, isGroup, unsuitedGroup}
+use Rattle.book_words.specs.Soundness.{entryFine, entrySuits, elementFine, elementSuits, categoryFine}
+use Rattle.book_words.specs.Totals.{Side, unstruck, allUnstruck, unstruckOf, sharesOf, activities, shareOf, emitted, mostActivity}
+use Rattle.book_words.specs.declared.records.Category.{Category}
+use Rattle.book_words.specs.declared.records.Element.{Element}
+use Rattle.book_words.specs.declared.records.Entry.{Entry}
+use Rattle.apportion.proofs.Sums.{sum-next, sum-cong, below-or-not, order, sum-le}
+use Rattle.book_words.proofs.Booleans.{and-both, both}
+use Rattle.book_words.proofs.Ranges.{between-low, between-high}
+use Rattle.book_words.proofs.Rules.{entry-inside, entry-numbered, element-quoted, element-inside, element-numbered}
+use Rattle.book_words.proofs.Views.{struckEntry, EntryStruck, CategoryAdded, EntryAdded, ElementAdded}
+use Rattle.book_words.proofs.Wholes.{Whole}
+use Rattle.book.proofs.Accepting.{enrolled}
+
+-- the categories that were there are there still, and the same
+pub record Carried (ws ws′ : List ℕ) : Type 0 where
+  pub no-fewer : categories ws ≤ categories ws′
+  pub same : (p : ℕ) → p < categories ws → categoryAt ws′ p ≡ categoryAt ws p
+
+module _ (ws ws′ : List ℕ) (carried : Carried ws ws′) where
+  carried-of : (category : ℕ) → 1 ≤ category → category ≤ categories ws → categoryOf ws′ category ≡ categoryOf ws category
+  carried-of category low high = carried .same (category - 1) (omega arith)
+
+  -- a record that kept the rules keeps them
+  pub entry-carried : (r : Entry) → entryFine ws r ≡ true → entryFine ws′ r ≡ true
+  entry-carried r e =
+      let inside = entry-inside ws r e in
+      let low = between-low 1 (categories ws) (r .category) inside in
+      let high = between-high 1 (categories ws) (r .category) inside in
+      let inside′ = and-both (leb 1 (r .category)) (leb (r .category) (categories ws′)) (le-leb 1 (r .category) low) (le-leb (r .category) (categories ws′) (omega (arith, carried .no-fewer))) in
+      sym (entry-numbered ws′ r inside′)
+      ∙ ap (λ (k : Category). entrySuits k r) (carried-of (r .category) low high)
+      ∙ entry-numbered ws r inside
+      ∙ e
+
+  pub element-carried : (r : Element) → elementFine ws r ≡ true → elementFine ws′ r ≡ true
+  element-carried r e =
+      ⊎-elim
+      (λ (none : r .category ≡ 0). sym (element-quoted ws′ r none) ∙ element-quoted ws r none ∙ e)
+      (λ (some : 0 < r .category).
+      let enrolled : r .category ≡ 0 → ⊥ = λ z. omega arith in
+      let high = element-inside ws r enrolled e in
+      sym (element-numbered ws′ r enrolled (omega (arith, carried .no-fewer)))
+      ∙ ap (λ (k : Category). elementSuits k r) (carried-of (r .category) (omega arith) high)
+      ∙ element-numbered ws r enrolled high
+      ∙ e)
+      (eq-zero-or-pos (r .category))
+
+-- what an entry adds to the category of this number
+abbrev inCategory : ℕ → Side → Entry → ℕ
+inCategory k s r = cond (eqb (r .category) k) (unstruck s r) 0
+
+-- the sum over a list with one record more
+sum-one-more : (n n′ : ℕ) (f f′ : ℕ → ℕ) (new : ℕ) → n′ ≡ n + 1 → ((p : ℕ) → p < n → f′ p ≡ f p) → f′ n ≡ new → sumBelow n′ f′ ≡ sumBelow n f + new
+sum-one-more n n′ f f′ new e same here = rw (e, sum-next n f′, sum-cong n f′ f same, here)
+
+-- a place of a list with one record more is an old one, or the last
+last : {A : Type 0} (n p : ℕ) → p < n + 1 → (p < n → A) → (p ≡ n → A) → A
+last n p h old new = ⊎-elim (λ (i : p < n). old i) (λ (i : n ≤ p). new (omega arith)) (below-or-not p n)
+
+same-or-not : (a b : ℕ) → (a ≡ b) ⊎ (a ≡ b → ⊥)
+same-or-not a b =
+    ⊎-elim
+    (λ (l : a < b). inr (λ e. omega arith))
+    (λ (m : (a ≡ b) ⊎ (b < a)). ⊎-elim (λ (e : a ≡ b). inl e) (λ (l : b < a). inr (λ e. omega arith)) m)
+    (order a b)
+
+-- the sums over a list that is the same
+module _ (ws ws′ : List ℕ) where
+  pub entries-kept : entries ws′ ≡ entries ws → ((p : ℕ) → p < entries ws → entryAt ws′ p ≡ entryAt ws p)
+      → ((s : Side) → allUnstruck ws′ s ≡ allUnstruck ws s) × ((k : ℕ) (s : Side) → unstruckOf ws′ k s ≡ unstruckOf ws k s)
+  unfolding allUnstruck unstruckOf
+  entries-kept e same = (
+    λ s.
+        rw e
+        (sum-cong (entries ws) (λ p. unstruck s (entryAt ws′ p)) (λ p. unstruck s (entryAt ws p)) (λ p h. ap (unstruck s) (same p h))),
+    λ k s.
+        rw e
+        (sum-cong (entries ws)
+        (λ p. cond (eqb (entryAt ws′ p .category) k) (unstruck s (entryAt ws′ p)) 0)
+        (λ p. cond (eqb (entryAt ws p .category) k) (unstruck s (entryAt ws p)) 0)
+        (λ p h. ap (λ (r : Entry). cond (eqb (r .category) k) (unstruck s r) 0) (same p h))),
+  )
+
+  pub elements-kept : elements ws′ ≡ elements ws → ((p : ℕ) → p < elements ws → elementAt ws′ p ≡ elementAt ws p)
+      → ((k : ℕ) (s : Side) → sharesOf ws′ k s ≡ sharesOf ws k s) × (activities ws′ ≡ activities ws)
+  unfolding sharesOf activities
+  elements-kept e same = (
+    λ k s.
+        rw e
+        (sum-cong (elements ws)
+        (λ p. cond (eqb (elementAt ws′ p .category) k) (shareOf s (elementAt ws′ p)) 0)
+        (λ p. cond (eqb (elementAt ws p .category) k) (shareOf s (elementAt ws p)) 0)
+        (λ p h. ap (λ (r : Element). cond (eqb (r .category) k) (shareOf s r) 0) (same p h))),
+    rw e (sum-cong (elements ws) (λ p. counted (elementAt ws′ p)) (λ p. counted (elementAt ws p)) (λ p h. ap counted (same p h))),
+  )
+
+  -- the sums over a list with one record more
+  pub entries-more : (r : Entry) → entries ws′ ≡ entries ws + 1 → ((p : ℕ) → p < entries ws → entryAt ws′ p ≡ entryAt ws p) → entryAt ws′ (entries ws) ≡ r
+      → ((s : Side) → allUnstruck ws′ s ≡ allUnstruck ws s + unstruck s r)
+      × ((k : ℕ) (s : Side) → unstruckOf ws′ k s ≡ unstruckOf ws k s + cond (eqb (r .category) k) (unstruck s r) 0)
+  unfolding allUnstruck unstruckOf
+  entries-more r e same new = (
+    λ s.
+        sum-one-more (entries ws) (entries ws′) (λ p. unstruck s (entryAt ws p)) (λ p. unstruck s (entryAt ws′ p)) (unstruck s r) e
+        (λ p h. ap (unstruck s) (same p h)) (ap (unstruck s) new),
+    λ k s.
+        sum-one-more (entries ws) (entries ws′)
+        (λ p. cond (eqb (entryAt ws p .category) k) (unstruck s (entryAt ws p)) 0)
+        (λ p. cond (eqb (entryAt ws′ p .category) k) (unstruck s (entryAt ws′ p)) 0)
+        (cond (eqb (r .category) k) (unstruck s r) 0) e
+        (λ p h. ap (λ (x : Entry). cond (eqb (x .category) k) (unstruck s x) 0) (same p h))
+        (ap (λ (x : Entry). cond (eqb (x .category) k) (unstruck s x) 0) new),
+  )
+
+  pub elements-more : (r : Element) → elements ws′ ≡ elements ws + 1 → ((p : ℕ) → p < elements ws → elementAt ws′ p ≡ elementAt ws p) → elementAt ws′ (elements ws) ≡ r
+      → ((k : ℕ) (s : Side) → sharesOf ws′ k s ≡ sharesOf ws k s + cond (eqb (r .category) k) (shareOf s r) 0)
+      × (activities ws′ ≡ activities ws + counted r)
+  unfolding sharesOf activities
+  elements-more r e same new = (
+    λ k s.
+        sum-one-more (elements ws) (elements ws′)
+        (λ p. cond (eqb (elementAt ws p .category) k) (shareOf s (elementAt ws p)) 0)
+        (λ p. cond (eqb (elementAt ws′ p .category) k) (shareOf s (elementAt ws′ p)) 0)
+        (cond (eqb (r .category) k) (shareOf s r) 0) e
+        (λ p h. ap (λ (x : Element). cond (eqb (x .category) k) (shareOf s x) 0) (same p h))
+        (ap (λ (x : Element). cond (eqb (x .category) k) (shareOf s x) 0) new),
+    sum-one-more (elements ws) (elements ws′) (λ p. counted (elementAt ws p)) (λ p. counted (elementAt ws′ p)) (counted r) e
+        (λ p h. ap counted (same p h)) (ap counted new),
+  )
+
+  -- the categories are the same
+  carried-over : categories ws′ ≡ categories ws → categories ws ≤ mostCategories → ((p : ℕ) → p < mostCategories → categoryAt ws′ p ≡ categoryAt ws p) → Carried ws ws′
+  carried-over e most same = record { no-fewer = omega arith; same = λ p h. same p (omega arith) }
+
+  same-fine : Whole ws → categories ws′ ≡ categories ws → ((p : ℕ) → p < mostCategories → categoryAt ws′ p ≡ categoryAt ws p)
+      → (p : ℕ) → p < categories ws′ → categoryFine (categoryAt ws′ p) ≡ true
+  same-fine w e same p h = ap categoryFine (same p (omega (arith, w .counts .categories-most))) ∙ w .each-category p (omega arith)
+
+  was-closed-at : Whole ws → ((p : ℕ) → p < mostCategories → categoryAt ws′ p ≡ categoryAt ws p) → (p : ℕ) → p < categories ws
+      → (categoryAt ws′ p .closed ≡ 0 → ⊥) → categoryAt ws p .closed ≡ 0 → ⊥
+  was-closed-at w same p h closed e =
+      closed (ap (λ (x : Category). x .closed) (same p (omega (arith, w .counts .categories-most))) ∙ e)
+
+  -- a record of an open category is of no closed one
+  elsewhere-not : (category p : ℕ) → categoryOf ws category .closed ≡ 0 → (categoryAt ws p .closed ≡ 0 → ⊥) → category ≡ p + 1 → ⊥
+  elsewhere-not category p unclosed closed e =
+      let here : category - 1 ≡ p = omega arith in
+      closed (ap (λ (q : ℕ). categoryAt ws q .closed) (sym here) ∙ unclosed)
+
+  elsewhere : (category p n : ℕ) → categoryOf ws category .closed ≡ 0 → (categoryAt ws p .closed ≡ 0 → ⊥) → cond (eqb category (p + 1)) n 0 ≡ 0
+  elsewhere category p n unclosed closed = rw (ne-eqb category (p + 1) (elsewhere-not category p unclosed closed))
+
+  -- a struck entry adds nothing
+  struck-fine : (r : Entry) → entryFine ws r ≡ true → entryFine ws (struckEntry r) ≡ true
+  unfolding entryFine entrySuits
+  struck-fine r e =
+      let inside = between 1 (categories ws) (r .category) in
+      let category = categoryOf ws (r .category) in
+      let rules = isGroup (r .group) && not (unsuitedGroup (category .kind) (r .group)) && leb (r .operation) largest && leb (r .provision) largest in
+      let parts = both inside (rules && leb (r .struck) 1) e in
+      and-both inside (rules && true) (parts .0) (and-both rules true (both rules (leb (r .struck) 1) (parts .1) .0) refl)
+
+  struck-less : (place : ℕ) → EntryStruck ws ws′ place → (s : Side) → allUnstruck ws′ s ≤ allUnstruck ws s
+  unfolding allUnstruck
+  struck-less place a s =
+      rw (a .same-entries)
+      (sum-le (entries ws) (λ p. unstruck s (entryAt ws′ p)) (λ p. unstruck s (entryAt ws p))
+      (λ p h.
+      ⊎-elim
+      (λ (e : p ≡ place). omega (arith, ap (λ (q : ℕ). unstruck s (entryAt ws′ q)) e ∙ ap (unstruck s) (a .entry-struck)))
+      (λ (ne : p ≡ place → ⊥). omega (arith, ap (unstruck s) (a .entry-kept p ne)))
+      (same-or-not p place)))
+
+  struck-elsewhere : (place : ℕ) → EntryStruck ws ws′ place → (k : ℕ) (s : Side) → (entryAt ws place .category ≡ k → ⊥) → unstruckOf ws′ k s ≡ unstruckOf ws k s
+  unfolding unstruckOf
+  struck-elsewhere place a k s other =
+      rw (a .same-entries)
+      (sum-cong (entries ws)
+      (λ p. cond (eqb (entryAt ws′ p .category) k) (unstruck s (entryAt ws′ p)) 0)
+      (λ p. cond (eqb (entryAt ws p .category) k) (unstruck s (entryAt ws p)) 0)
+      (λ p h.
+      ⊎-elim
+      (λ (e : p ≡ place).
+      ap (λ (q : ℕ). inCategory k s (entryAt ws′ q)) e
+      ∙ ap (inCategory k s) (a .entry-struck)
+      ∙ none (struckEntry (entryAt ws place)) other
+      ∙ sym (ap (λ (q : ℕ). inCategory k s (entryAt ws q)) e ∙ none (entryAt ws place) other))
+      (λ (ne : p ≡ place → ⊥). ap (inCategory k s) (a .entry-kept p ne))
+      (same-or-not p place)))
+    where
+      none : (r : Entry) → (r .category ≡ k → ⊥) → cond (eqb (r .category) k) (unstruck s r) 0 ≡ 0
+      none r ne = rw (ne-eqb (r .category) k ne)
+
+  -- a category appended
+  pub open-keeps : (r : Category) → Whole ws → CategoryAdded ws ws′ r → categories ws < mostCategories → categoryFine r ≡ true → r .closed ≡ 0 → Whole ws′
+  open-keeps r w a room fine unclosed =
+      let carried : Carried ws ws′ = record { no-fewer = omega (arith, a .one-more); same = λ p h. a .category-kept p (λ e. omega arith) } in
+      let entry-sums = entries-kept (a .same-entries) (λ p h. a .entry-kept p) in
+      let element-sums = elements-kept (a .same-elements) (λ p h. a .element-kept p) in
+      record {
+        counts = record {
+          long = omega (arith, a .same-length, w .counts .long);
+          categories-most = omega (arith, a .one-more);
+          entries-most = omega (arith, a .same-entries, w .counts .entries-most);
+          elements-most = omega (arith, a .same-elements, w .counts .elements-most);
+        };
+        marked = a .same-mark ∙ w .marked;
+        each-category = λ p h.
+            last (categories ws) p (omega (arith, a .one-more))
+            (λ i. ap categoryFine (a .category-kept p (λ e. omega arith)) ∙ w .each-category p i)
+            (λ e. ap (λ (q : ℕ). categoryFine (categoryAt ws′ q)) e ∙ ap categoryFine (a .category-new) ∙ fine);
+        each-entry = λ p h.
+            ap (entryFine ws′) (a .entry-kept p) ∙ entry-carried ws ws′ carried (entryAt ws p) (w .each-entry p (omega (arith, a .same-entries)));
+        each-element = λ p h.
+            ap (elementFine ws′) (a .element-kept p) ∙ element-carried ws ws′ carried (elementAt ws p) (w .each-element p (omega (arith, a .same-elements)));
+        limited = λ s. omega (arith, entry-sums .0 s, element-sums .0 0 s, w .limited s);
+        active = omega (arith, element-sums .1, w .active);
+        balanced = λ p h closed s.
+            last (categories ws) p (omega (arith, a .one-more))
+            (λ i.
+            element-sums .0 (p + 1) s ∙ w .balanced p i (λ e. closed (ap (λ (x : Category). x .closed) (a .category-kept p (λ same. omega arith)) ∙ e)) s ∙ sym (entry-sums .1 (p + 1) s))
+            (λ e. absurd (closed (ap (λ (q : ℕ). categoryAt ws′ q .closed) e ∙ ap (λ (x : Category). x .closed) (a .category-new) ∙ unclosed)));
+      }
+
+  -- an entry appended
+  pub post-keeps : (r : Entry) → Whole ws → EntryAdded ws ws′ r → entries ws < mostEntries → entryFine ws r ≡ true → categoryOf ws (r .category) .closed ≡ 0
+      → ((s : Side) → emitted ws s + unstruck s r ≤ largest) → Whole ws′
+  post-keeps r w a room fine unclosed within =
+      let carried = carried-over (a .same-categories) (w .counts .categories-most) (a .category-kept) in
+      let entry-sums = entries-more r (a .one-more) (λ p h. a .entry-kept p (λ e. omega arith)) (a .entry-new) in
+      let element-sums = elements-kept (a .same-elements) (λ p h. a .element-kept p) in
+      record {
+        counts = record {
+          long = omega (arith, a .same-length, w .counts .long);
+          categories-most = omega (arith, a .same-categories, w .counts .categories-most);
+          entries-most = omega (arith, a .one-more);
+          elements-most = omega (arith, a .same-elements, w .counts .elements-most);
+        };
+        marked = a .same-mark ∙ w .marked;
+        each-category = same-fine w (a .same-categories) (a .category-kept);
+        each-entry = λ p h.
+            last (entries ws) p (omega (arith, a .one-more))
+            (λ i. ap (entryFine ws′) (a .entry-kept p (λ e. omega arith)) ∙ entry-carried ws ws′ carried (entryAt ws p) (w .each-entry p i))
+            (λ e. ap (λ (q : ℕ). entryFine ws′ (entryAt ws′ q)) e ∙ ap (entryFine ws′) (a .entry-new) ∙ entry-carried ws ws′ carried r fine);
+        each-element = λ p h.
+            ap (elementFine ws′) (a .element-kept p) ∙ element-carried ws ws′ carried (elementAt ws p) (w .each-element p (omega (arith, a .same-elements)));
+        limited = λ s. omega (arith, entry-sums .0 s, element-sums .0 0 s, within s);
+        active = omega (arith, element-sums .1, w .active);
+        balanced = λ p h closed s.
+            let i : p < categories ws = omega (arith, a .same-categories) in
+            let closed-before = was-closed-at w (a .category-kept) p i closed in
+            element-sums .0 (p + 1) s
+            ∙ w .balanced p i closed-before s
+            ∙ sym (entry-sums .1 (p + 1) s ∙ rw (elsewhere (r .category) p (unstruck s r) unclosed closed-before, add-zero));
+      }
+
+  -- an entry struck
+  pub strike-keeps : (place : ℕ) → Whole ws → EntryStruck ws ws′ place → place < entries ws → categoryOf ws (entryAt ws place .category) .closed ≡ 0 → Whole ws′
+  strike-keeps place w a h unclosed =
+      let carried = carried-over (a .same-categories) (w .counts .categories-most) (a .category-kept) in
+      let element-sums = elements-kept (a .same-elements) (λ p i. a .element-kept p) in
+      record {
+        counts = record {
+          long = omega (arith, a .same-length, w .counts .long);
+          categories-most = omega (arith, a .same-categories, w .counts .categories-most);
+          entries-most = omega (arith, a .same-entries, w .counts .entries-most);
+          elements-most = omega (arith, a .same-elements, w .counts .elements-most);
+        };
+        marked = a .same-mark ∙ w .marked;
+        each-category = same-fine w (a .same-categories) (a .category-kept);
+        each-entry = λ p i.
+            ⊎-elim
+            (λ (e : p ≡ place).
+            ap (λ (q : ℕ). entryFine ws′ (entryAt ws′ q)) e
+            ∙ ap (entryFine ws′) (a .entry-struck)
+            ∙ entry-carried ws ws′ carried (struckEntry (entryAt ws place)) (struck-fine (entryAt ws place) (w .each-entry place h)))
+            (λ (ne : p ≡ place → ⊥).
+            ap (entryFine ws′) (a .entry-kept p ne) ∙ entry-carried ws ws′ carried (entryAt ws p) (w .each-entry p (omega (arith, a .same-entries))))
+            (same-or-not p place);
+        each-element = λ p i.
+            ap (elementFine ws′) (a .element-kept p) ∙ element-carried ws ws′ carried (elementAt ws p) (w .each-element p (omega (arith, a .same-elements)));
+        limited = λ s. omega (arith, struck-less place a s, element-sums .0 0 s, w .limited s);
+        active = omega (arith, element-sums .1, w .active);
+        balanced = λ p i closed s.
+            let inside : p < categories ws = omega (arith, a .same-categories) in
+            let closed-before = was-closed-at w (a .category-kept) p inside closed in
+            element-sums .0 (p + 1) s
+            ∙ w .balanced p inside closed-before s
+            ∙ sym (struck-elsewhere place a (p + 1) s (elsewhere-not (entryAt ws place .category) p unclosed closed-before));
+      }
+
+  -- an element appended
+  pub element-keeps : (r : Element) → Whole ws → ElementAdded ws ws′ r → elements ws < mostElements → elementFine ws r ≡ true
+      → ((s : Side) → emitted ws s + cond (eqb (r .category) 0) (shareOf s r) 0 ≤ largest)
+      → activities ws + counted r ≤ mostActivity
+      → ((p : ℕ) (s : Side) → cond (eqb (r .category) (p + 1)) (shareOf s r) 0 ≡ 0)
+      → Whole ws′
+  element-keeps r w a room fine within active none =
+      let carried = carried-over (a .same-categories) (w .counts .categories-most) (a .category-kept) in
+      let entry-sums = entries-kept (a .same-entries) (λ p h. a .entry-kept p (omega (arith, w .counts .entries-most))) in
+      let element-sums = elements-more r (a .one-more) (λ p h. a .element-kept p (λ e. omega arith)) (a .element-new) in
+      record {
+        counts = record {
+          long = omega (arith, a .same-length, w .counts .long);
+          categories-most = omega (arith, a .same-categories, w .counts .categories-most);
+          entries-most = omega (arith, a .same-entries, w .counts .entries-most);
+          elements-most = omega (arith, a .one-more);
+        };
+        marked = a .same-mark ∙ w .marked;
+        each-category = same-fine w (a .same-categories) (a .category-kept);
+        each-entry = λ p h.
+            let i : p < entries ws = omega (arith, a .same-entries) in
+            ap (entryFine ws′) (a .entry-kept p (omega (arith, w .counts .entries-most))) ∙ entry-carried ws ws′ carried (entryAt ws p) (w .each-entry p i);
+        each-element = λ p h.
+            last (elements ws) p (omega (arith, a .one-more))
+            (λ i. ap (elementFine ws′) (a .element-kept p (λ e. omega arith)) ∙ element-carried ws ws′ carried (elementAt ws p) (w .each-element p i))
+            (λ e. ap (λ (q : ℕ). elementFine ws′ (elementAt ws′ q)) e ∙ ap (elementFine ws′) (a .element-new) ∙ element-carried ws ws′ carried r fine);
+        limited = λ s. omega (arith, entry-sums .0 s, element-sums .0 0 s, within s);
+        active = omega (arith, element-sums .1, active);
+        balanced = λ p h closed s.
+            let i : p < categories ws = omega (arith, a .same-categories) in
+            element-sums .0 (p + 1) s
+            ∙ rw (none p s, add-zero) (w .balanced p i (was-closed-at w (a .category-kept) p i closed) s ∙ sym (entry-sums .1 (p + 1) s));
+      }

@@ -1,0 +1,117 @@
+-- What the tests of a call say as the grounds of its definition. Assumes nothing.
+use mathlib.Core.Bool.{true, false, not, Bool, cond, _&&_, _||_}
+use mathlib.Core.List.{List}
+use mathlib.Core.Path.{_≡_, _∙_, ap, sym, refl}
+use Prim.Native.Nat.{_-_, ℕ, zero, suc, _≤_, _<_}
+use native.Mathlib.Omega.{arith}
+use lib.Dec.{eqb}
+use borrow.Author.Tests.{not-false, ne-eqb, eq-eqb}
+use Rattle.apportion.specs.Dividing.{refusal}
+use Rattle.apportion.specs.Grounds.{accepted}
+use Rattle.book_words.specs.Book.{categories, categoryOf, entries, entryAt, mostEntries}
+use Rattle.book_words.specs.Measures.{between, counted}
+use Rattle.book_words.specs.Parts.{numberedCategory, numberedEntry}
+use Rattle.book_words.specs.Soundness.{sound, entriesFine, entryFine}
+use Rattle.book_words.specs.Totals.{capped, passesAmounts, emitted, operation, provision, passesActivity}
+use Rattle.book_words.specs.declared.records.Category.{Category}
+use Rattle.book_words.specs.declared.records.Element.{Element}
+use Rattle.book_words.specs.declared.records.Entry.{Entry}
+use Rattle.book.specs.declared.replies.Reply.{Reply}
+use Rattle.book.specs.Calls.{unnumbered, isClosed, replyOf, quotedAmount, quotedElement}
+use Rattle.book.specs.Quotes.{cappedQuote}
+use Rattle.book_words.proofs.Capping.{capped-added}
+use Rattle.book_words.proofs.Every.{every-at}
+use Rattle.book_words.proofs.Facts.{sound-counted, sound-parts}
+use Rattle.book_words.proofs.Ranges.{between-low, between-high}
+use Rattle.book_words.proofs.Rules.{entry-inside}
+
+-- the record of a number that is there
+pub category-there : (ws : List ℕ) (number : ℕ) (r : Category) → r ≡ numberedCategory ws number → between 1 (categories ws) number ≡ true → r ≡ categoryOf ws number
+category-there ws number r is inside = is ∙ rw inside
+
+pub entry-there : (ws : List ℕ) (number : ℕ) (r : Entry) → r ≡ numberedEntry ws number → between 1 (entries ws) number ≡ true → r ≡ entryAt ws (number - 1)
+entry-there ws number r is inside = is ∙ rw inside
+
+-- the category that was read is that of the definition
+module _ (ws : List ℕ) (category : ℕ) (r : Category) (given : r ≡ numberedCategory ws category) (left : unnumbered (categories ws) category ≡ false) where
+  is : r ≡ categoryOf ws category
+  is = category-there ws category r given (not-false (between 1 (categories ws) category) left)
+
+  pub was-closed : (r .closed ≡ 0 → ⊥) → isClosed ws category ≡ true
+  was-closed ne = rw (ap (λ (x : Category). x .closed) (sym is), ne-eqb (r .closed) 0 ne)
+
+  pub was-open : r .closed ≡ 0 → isClosed ws category ≡ false
+  was-open e = rw (ap (λ (x : Category). x .closed) (sym is), eq-eqb (r .closed) 0 e)
+
+  -- a test of its kind
+  pub of-kind : (test : ℕ → Bool) (b t : Bool) → b ≡ test (r .kind) → b ≡ t → test (categoryOf ws category .kind) ≡ t
+  of-kind test b t e h = ap (λ (x : Category). test (x .kind)) (sym is) ∙ sym e ∙ h
+
+-- a ground that does not hold is passed over, and the first that holds gives its number
+pub passed : {holds : Bool} (n : ℕ) {rest : ℕ} → holds ≡ false → cond holds n rest ≡ rest
+passed n e = rw e
+
+pub stopped : {holds : Bool} (n rest : ℕ) → holds ≡ true → cond holds n rest ≡ n
+stopped n rest e = rw e
+
+-- the amounts of ground 10 are capped
+pub passes-capped : (ws : List ℕ) (a b : ℕ) → passesAmounts ws (capped a) (capped b) ≡ passesAmounts ws a b
+passes-capped ws a b = rw (capped-added (emitted ws operation) a, capped-added (emitted ws provision) b)
+
+-- the reply of a refused call and its book
+pub call-refused : (r : Reply) (n m number : ℕ) (new old : List ℕ) → r ≡ record { refusal = n; number = 0 } → n ≡ m → (n ≡ 0 → ⊥) → (r ≡ replyOf m number) × (old ≡ accepted m new old)
+call-refused r n zero number new old e is ne = absurd (ne is)
+call-refused r n (suc m) number new old e is ne = (rw (e, is), refl)
+
+-- the reply of an accepted call and its book
+pub call-accepted : (r : Reply) (n m number : ℕ) (new after old : List ℕ) → n ≡ m → n ≡ 0 → r ≡ replyOf 0 number → after ≡ new → (r ≡ replyOf m number) × (after ≡ accepted m new old)
+call-accepted r n m number new after old is none e f =
+    let zeroth = sym is ∙ none in
+    (rw (zeroth, e), rw (zeroth, f))
+
+-- a refusal where two tests do not both hold
+pub not-is2 : (a a′ b b′ : Bool) → a ≡ a′ → b ≡ b′ → not (a′ && b′) ≡ not (a && b)
+not-is2 a a′ b b′ e f = rw (e, f)
+
+-- where ground 2 of a strike does not hold
+pub numbered-entry : (ws : List ℕ) (entry : ℕ) → sound ws ≡ true → unnumbered (entries ws) entry ≡ false → (1 ≤ entry) × (entry ≤ entries ws) × (entries ws ≤ mostEntries)
+numbered-entry ws entry fine left =
+    let inside = not-false (between 1 (entries ws) entry) left in
+    (between-low 1 (entries ws) entry inside, between-high 1 (entries ws) entry inside, sound-counted ws fine .entries-most)
+
+-- ground 10 of a quote, from its capped element
+pub quote-passes : (ws : List ℕ) (chain adjust mass distance operationIntensity provisionIntensity : ℕ) (e : Element) (a b : Bool)
+    → e ≡ cappedQuote chain adjust mass distance operationIntensity provisionIntensity
+    → a ≡ passesAmounts ws (e .operation) (e .provision)
+    → b ≡ passesActivity ws e
+    → passesAmounts ws (quotedAmount adjust mass distance operationIntensity) (quotedAmount adjust mass distance provisionIntensity)
+    || passesActivity ws (quotedElement chain adjust mass distance operationIntensity provisionIntensity)
+    ≡ a || b
+unfolding counted
+quote-passes ws chain adjust mass distance operationIntensity provisionIntensity e a b is p q =
+    rw (
+      p,
+      q,
+      is,
+      passes-capped ws (quotedAmount adjust mass distance operationIntensity) (quotedAmount adjust mass distance provisionIntensity),
+    )
+
+-- in a sound book the category of a numbered entry is numbered
+pub entry-category : (ws : List ℕ) (entry : ℕ) → sound ws ≡ true → unnumbered (entries ws) entry ≡ false → (r : Entry) → r ≡ entryAt ws (entry - 1) → between 1 (categories ws) (r .category) ≡ true
+unfolding entriesFine
+entry-category ws entry fine left r is =
+    let inside = numbered-entry ws entry fine left in
+    let place : entry - 1 < entries ws = omega arith in
+    let rules = every-at (entries ws) (λ p. entryFine ws (entryAt ws p)) (sound-parts ws fine .all-entries) (entry - 1) place in
+    let mine = ap (entryFine ws) is ∙ rules in
+    entry-inside ws r mine
+
+-- ground 4 of a strike, from the records that were read
+pub strike-closed : (ws : List ℕ) (entry : ℕ) (r : Entry) (k : Category) → sound ws ≡ true → unnumbered (entries ws) entry ≡ false
+    → r ≡ numberedEntry ws entry → k ≡ numberedCategory ws (r .category)
+    → isClosed ws (entryAt ws (entry - 1) .category) || not (eqb (entryAt ws (entry - 1) .struck) 0)
+    ≡ not (eqb (k .closed) 0) || not (eqb (r .struck) 0)
+strike-closed ws entry r k fine left given of =
+    let is = entry-there ws entry r given (not-false (between 1 (entries ws) entry) left) in
+    let there = category-there ws (r .category) k of (entry-category ws entry fine left r is) in
+    rw (there, is)

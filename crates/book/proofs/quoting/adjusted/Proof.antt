@@ -1,0 +1,17 @@
+-- `book::quoting::adjusted` meets its contract: D by the adjust number. Assumes nothing.
+use borrow.Author.Needs.{needs}
+use borrow.Author.Tests.{eq-eqb, ne-eqb}
+use Rattle.book.proofs.quoting.adjusted.Statement.{statement}
+use Rattle.book.proofs.quoting.adjusted.Tie as tie
+
+add-result : tie.Need-add-result
+add-result c = search needs
+
+returns : tie.Need-returns
+returns c = rw (eq-eqb _ _ (c .if1 .taken))
+
+returns-2 : tie.Need-returns-2
+returns-2 c = rw (ne-eqb _ _ (c .if1 .left))
+
+pub adjusted-spec : {M : Type 1} → statement M
+adjusted-spec = tie.close (tie.spec add-result returns returns-2)

@@ -1,0 +1,187 @@
+-- "Calls" and their "Grounds, in checking order". Each call has one ordered list of its grounds; its reply and the book after
+-- it go by the number of the first ground that holds. Assumes nothing.
+use mathlib.Core.Bool.{not, Bool, _&&_, _||_, cond}
+use mathlib.Core.List.{List, _++_, _∷_, []}
+use Prim.Native.Nat.{ℕ, _+_, _*_, _-_}
+use lib.Dec.{ltb, leb, eqb}
+use lib.ListN.{drop, length, set}
+use Rattle.apportion.specs.Dividing.{refusal}
+use Rattle.apportion.specs.Grounds.{accepted, firstOf}
+use Rattle.apportion.specs.Places.{listBelow}
+use Rattle.book_words.specs.Book.{bookLength, mark, mostCategories, categories, addCategory, categoryOf, mostEntries, entries, addEntry, entryAt, mostElements, elements, addElement}
+use Rattle.book_words.specs.Measures.{isKind, between, isGroup, unsuited, unsuitedGroup, isQuantity, isFactor, activityOf, isChain, isCode, isAmount, isDistance, nearest, isIntensity}
+use Rattle.book_words.specs.Soundness.{sound}
+use Rattle.book_words.specs.Totals.{passesAmounts, passesActivity}
+use Rattle.book_words.specs.declared.records.Element.{Element}
+use Rattle.book_words.specs.declared.records.Entry.{Entry}
+use Rattle.book.specs.declared.replies.Reply.{Reply}
+
+-- "A refusal returns its number with zeros": the reply of a call that returns a record's number
+abbrev pub replyOf : ℕ → ℕ → Reply
+replyOf refusal number = record { refusal = refusal; number = accepted refusal number 0 }
+
+-- "**Fresh**: the 2,404 words become 0, then word 0 is set."
+unfoldable pub cleared : List ℕ → List ℕ
+cleared ws = listBelow bookLength (λ k. 0) ++ drop bookLength ws
+
+unfoldable pub freshRefusal : List ℕ → ℕ
+freshRefusal ws = firstOf ((1, ltb (length ws) bookLength) ∷ [])
+
+unfoldable pub freshBook : List ℕ → List ℕ
+freshBook ws = accepted (freshRefusal ws) (set (cleared ws) 0 mark) ws
+
+-- "**Open** (kind)"
+unfoldable pub openRefusal : List ℕ → ℕ → ℕ
+openRefusal ws kind =
+    firstOf
+    ((1, not (sound ws))
+    ∷ (3, not (isKind kind))
+    ∷ (8, leb mostCategories (categories ws))
+    ∷ [])
+
+unfoldable pub openReply : List ℕ → ℕ → Reply
+openReply ws kind = replyOf (openRefusal ws kind) (categories ws + 1)
+
+unfoldable pub openBook : List ℕ → ℕ → List ℕ
+openBook ws kind = accepted (openRefusal ws kind) (addCategory ws (record { kind = kind; closed = 0 })) ws
+
+-- ground 2: "A category or entry number is not between 1 and its count."
+abbrev pub unnumbered : ℕ → ℕ → Bool
+unnumbered count number = not (between 1 count number)
+
+-- ground 4: "A closed category"
+abbrev pub isClosed : List ℕ → ℕ → Bool
+isClosed ws category = not (eqb (categoryOf ws category .closed) 0)
+
+-- "**post** (category, group, quantity, operation factor, provision factor)"; "quantity × factor is µg"
+unfoldable pub postRefusal : List ℕ → ℕ → ℕ → ℕ → ℕ → ℕ → ℕ
+postRefusal ws category group quantity operationFactor provisionFactor =
+    firstOf
+    ((1, not (sound ws))
+    ∷ (2, unnumbered (categories ws) category)
+    ∷ (3, not (isGroup group))
+    ∷ (4, isClosed ws category)
+    ∷ (6, unsuitedGroup (categoryOf ws category .kind) group)
+    ∷ (7, not (isQuantity quantity && isFactor operationFactor && isFactor provisionFactor))
+    ∷ (8, leb mostEntries (entries ws))
+    ∷ (10, passesAmounts ws (quantity * operationFactor) (quantity * provisionFactor))
+    ∷ [])
+
+unfoldable pub postReply : List ℕ → ℕ → ℕ → ℕ → ℕ → ℕ → Reply
+postReply ws category group quantity operationFactor provisionFactor =
+    replyOf (postRefusal ws category group quantity operationFactor provisionFactor) (entries ws + 1)
+
+abbrev pub postedEntry : ℕ → ℕ → ℕ → ℕ → ℕ → Entry
+postedEntry category group quantity operationFactor provisionFactor =
+    record {
+      category = category;
+      group = group;
+      operation = quantity * operationFactor;
+      provision = quantity * provisionFactor;
+      struck = 0;
+    }
+
+unfoldable pub postBook : List ℕ → ℕ → ℕ → ℕ → ℕ → ℕ → List ℕ
+postBook ws category group quantity operationFactor provisionFactor =
+    accepted
+    (postRefusal ws category group quantity operationFactor provisionFactor)
+    (addEntry ws (postedEntry category group quantity operationFactor provisionFactor))
+    ws
+
+-- "**Strike** (entry) sets its struck word; the record still counts towards 64."
+unfoldable pub strikeRefusal : List ℕ → ℕ → ℕ
+strikeRefusal ws entry =
+    firstOf
+    ((1, not (sound ws))
+    ∷ (2, unnumbered (entries ws) entry)
+    ∷ (4, isClosed ws (entryAt ws (entry - 1) .category) || not (eqb (entryAt ws (entry - 1) .struck) 0))
+    ∷ [])
+
+unfoldable pub strikeBook : List ℕ → ℕ → List ℕ
+strikeBook ws entry = accepted (strikeRefusal ws entry) (set ws (36 + 5 * (entry - 1) + 4) 1) ws
+
+-- "**enrol** (category, chain, code, amount, distance)"
+abbrev pub enrolledElement : List ℕ → ℕ → ℕ → ℕ → ℕ → ℕ → Element
+enrolledElement ws category chain code amount distance =
+    record {
+      category = category;
+      chain = chain;
+      code = code;
+      amount = amount;
+      distance = distance;
+      activity = activityOf (categoryOf ws category .kind) code amount distance;
+      operation = 0;
+      provision = 0;
+    }
+
+unfoldable pub enrolRefusal : List ℕ → ℕ → ℕ → ℕ → ℕ → ℕ → ℕ
+enrolRefusal ws category chain code amount distance =
+    firstOf
+    ((1, not (sound ws))
+    ∷ (2, unnumbered (categories ws) category)
+    ∷ (3, not (isChain chain && isCode code))
+    ∷ (4, isClosed ws category)
+    ∷ (6, unsuited (categoryOf ws category .kind) code)
+    ∷ (7, not (isAmount code amount && isDistance (categoryOf ws category .kind) distance))
+    ∷ (8, leb mostElements (elements ws))
+    ∷ (10, passesActivity ws (enrolledElement ws category chain code amount distance))
+    ∷ [])
+
+unfoldable pub enrolReply : List ℕ → ℕ → ℕ → ℕ → ℕ → ℕ → Reply
+enrolReply ws category chain code amount distance =
+    replyOf (enrolRefusal ws category chain code amount distance) (elements ws + 1)
+
+unfoldable pub enrolBook : List ℕ → ℕ → ℕ → ℕ → ℕ → ℕ → List ℕ
+enrolBook ws category chain code amount distance =
+    accepted
+    (enrolRefusal ws category chain code amount distance)
+    (addElement ws (enrolledElement ws category chain code amount distance))
+    ws
+
+-- "D is the distance, or with adjust 1 the distance plus 95,000 (the air default, Annex A.3.2)."
+abbrev pub adjusted : ℕ → ℕ → ℕ
+adjusted adjust distance = cond (eqb adjust 1) (distance + 95_000) distance
+
+-- "shares (intensity × mass × D / 1000), nearest, halves up"
+unfoldable pub quotedAmount : ℕ → ℕ → ℕ → ℕ → ℕ
+quotedAmount adjust mass distance intensity = nearest (intensity * mass * adjusted adjust distance) 1000
+
+-- "**Quote** (chain, adjust, mass, distance, two intensities in mg per tonne-km) appends an element of category 0, code 0";
+-- "Its activity is mass × distance."
+abbrev pub quotedElement : ℕ → ℕ → ℕ → ℕ → ℕ → ℕ → Element
+quotedElement chain adjust mass distance operationIntensity provisionIntensity =
+    record {
+      category = 0;
+      chain = chain;
+      code = 0;
+      amount = mass;
+      distance = distance;
+      activity = mass * distance;
+      operation = quotedAmount adjust mass distance operationIntensity;
+      provision = quotedAmount adjust mass distance provisionIntensity;
+    }
+
+unfoldable pub quoteRefusal : List ℕ → ℕ → ℕ → ℕ → ℕ → ℕ → ℕ → ℕ
+quoteRefusal ws chain adjust mass distance operationIntensity provisionIntensity =
+    firstOf
+    ((1, not (sound ws))
+    ∷ (3, not (isChain chain && leb adjust 1))
+    ∷ (7, not (isAmount 0 mass && isDistance 1 distance && isIntensity operationIntensity && isIntensity provisionIntensity))
+    ∷ (8, leb mostElements (elements ws))
+    ∷ (
+      10,
+      passesAmounts ws (quotedAmount adjust mass distance operationIntensity) (quotedAmount adjust mass distance provisionIntensity)
+          || passesActivity ws (quotedElement chain adjust mass distance operationIntensity provisionIntensity),
+    )
+    ∷ [])
+
+unfoldable pub quoteReply : List ℕ → ℕ → ℕ → ℕ → ℕ → ℕ → ℕ → Reply
+quoteReply ws chain adjust mass distance operationIntensity provisionIntensity =
+    replyOf (quoteRefusal ws chain adjust mass distance operationIntensity provisionIntensity) (elements ws + 1)
+
+unfoldable pub quoteBook : List ℕ → ℕ → ℕ → ℕ → ℕ → ℕ → ℕ → List ℕ
+quoteBook ws chain adjust mass distance operationIntensity provisionIntensity =
+    accepted
+    (quoteRefusal ws chain adjust mass distance operationIntensity provisionIntensity)
+    (addElement ws (quotedElement chain adjust mass distance operationIntensity provisionIntensity))
+    ws

@@ -1,0 +1,70 @@
+// Appended records: every word of the record is written, and the record is counted.
+ghost use mathlib.Core.Path.{_≡_};
+ghost use Prim.Native.Nat.{_+_, _≤_, _<_};
+ghost use lib.ListN.{length};
+ghost use Rattle.book_words.specs.Book.{bookLength, categories, entries, elements, mostCategories, mostEntries, mostElements, addCategory, addEntry, addElement};
+ghost use Rattle.book.specs.Calls.{replyOf};
+use crate::replies::Reply;
+use book_words::Category;
+use book_words::Element;
+use book_words::Entry;
+
+// Appends a category and answers its number.
+pub fn add_category(book: &mut [u64], added: Category) -> Reply
+    requires { ⌜ (bookLength ≤ length (now book)) × (categories (now book) < mostCategories) ⌝ }
+    ensures { λ r. ⌜ r ≡ replyOf 0 (categories (now (book .entry)) + 1) ⌝ }
+    ensures { λ _. ⌜ now (book .exit) ≡ addCategory (now (book .entry)) added ⌝ }
+{
+    let count = book[book_words::CATEGORIES];
+    let at = 4 + 2 * (count as usize);
+    book[at] = added.kind;
+    book[at + 1] = added.closed;
+    book[book_words::CATEGORIES] = count + 1;
+    Reply {
+        refusal: 0,
+        number: count + 1,
+    }
+}
+
+// Appends an entry and answers its number.
+pub fn add_entry(book: &mut [u64], added: Entry) -> Reply
+    requires { ⌜ (bookLength ≤ length (now book)) × (entries (now book) < mostEntries) ⌝ }
+    ensures { λ r. ⌜ r ≡ replyOf 0 (entries (now (book .entry)) + 1) ⌝ }
+    ensures { λ _. ⌜ now (book .exit) ≡ addEntry (now (book .entry)) added ⌝ }
+{
+    let count = book[book_words::ENTRIES];
+    let at = 36 + 5 * (count as usize);
+    book[at] = added.category;
+    book[at + 1] = added.group;
+    book[at + 2] = added.operation;
+    book[at + 3] = added.provision;
+    book[at + 4] = added.struck;
+    book[book_words::ENTRIES] = count + 1;
+    Reply {
+        refusal: 0,
+        number: count + 1,
+    }
+}
+
+// Appends an element and answers its number.
+pub fn add_element(book: &mut [u64], added: Element) -> Reply
+    requires { ⌜ (bookLength ≤ length (now book)) × (elements (now book) < mostElements) ⌝ }
+    ensures { λ r. ⌜ r ≡ replyOf 0 (elements (now (book .entry)) + 1) ⌝ }
+    ensures { λ _. ⌜ now (book .exit) ≡ addElement (now (book .entry)) added ⌝ }
+{
+    let count = book[book_words::ELEMENTS];
+    let at = 356 + 8 * (count as usize);
+    book[at] = added.category;
+    book[at + 1] = added.chain;
+    book[at + 2] = added.code;
+    book[at + 3] = added.amount;
+    book[at + 4] = added.distance;
+    book[at + 5] = added.activity;
+    book[at + 6] = added.operation;
+    book[at + 7] = added.provision;
+    book[book_words::ELEMENTS] = count + 1;
+    Reply {
+        refusal: 0,
+        number: count + 1,
+    }
+}

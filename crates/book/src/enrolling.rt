@@ -1,0 +1,117 @@
+// Enrol: appends an element of a category.
+ghost use mathlib.Core.Path.{_≡_};
+ghost use mathlib.Core.Bool.{true};
+ghost use Prim.Native.Nat.{_≤_};
+ghost use Rattle.book_words.specs.Book.{mostCategories, categories, categoryOf};
+ghost use Rattle.book_words.specs.Measures.{between, isCode, isAmount, isDistance};
+ghost use Rattle.book_words.specs.Soundness.{sound};
+ghost use Rattle.book.specs.Calls.{enrolRefusal, enrolReply, enrolBook, enrolledElement};
+use crate::appending;
+use crate::replies;
+use crate::replies::Reply;
+use book_words::Element;
+
+// Enrols an element in a category, and answers its number.
+pub fn enrol(
+    book: &mut [u64],
+    category: u64,
+    chain: u64,
+    code: u64,
+    amount: u64,
+    distance: u64,
+) -> Reply
+    ensures { λ r. ⌜ r ≡ enrolReply (now (book .entry)) category chain code amount distance ⌝ }
+    ensures { λ _. ⌜ now (book .exit) ≡ enrolBook (now (book .entry)) category chain code amount distance ⌝ }
+{
+    if !book_words::is_sound(book) {
+        return replies::refused(1);
+    }
+    enrol_sound(book, category, chain, code, amount, distance)
+}
+
+// The same on a book that is known to be sound.
+pub fn enrol_sound(
+    book: &mut [u64],
+    category: u64,
+    chain: u64,
+    code: u64,
+    amount: u64,
+    distance: u64,
+) -> Reply
+    requires { ⌜ sound (now book) ≡ true ⌝ }
+    ensures { λ r. ⌜ r ≡ enrolReply (now (book .entry)) category chain code amount distance ⌝ }
+    ensures { λ _. ⌜ now (book .exit) ≡ enrolBook (now (book .entry)) category chain code amount distance ⌝ }
+{
+    let refusal = refusal_number(book, category, chain, code, amount, distance);
+    if refusal != 0 {
+        return replies::refused(refusal);
+    }
+    let e = enrolled(book, category, chain, code, amount, distance);
+    appending::add_element(book, e)
+}
+
+fn refusal_number(
+    book: &[u64],
+    category: u64,
+    chain: u64,
+    code: u64,
+    amount: u64,
+    distance: u64,
+) -> u64
+    requires { ⌜ sound (now book) ≡ true ⌝ }
+    ensures { λ r. ⌜ r ≡ enrolRefusal (now (book .entry)) category chain code amount distance ⌝ }
+{
+    if !((1 <= category) & (category <= book[book_words::CATEGORIES])) {
+        return 2;
+    }
+    if !(book_words::is_chain(chain) & book_words::is_code(code)) {
+        return 3;
+    }
+    let r = book_words::category_of(book, category);
+    if r.closed != 0 {
+        return 4;
+    }
+    if book_words::unsuited(r.kind, code) {
+        return 6;
+    }
+    if !(book_words::is_amount(code, amount) & book_words::is_distance(r.kind, distance)) {
+        return 7;
+    }
+    if book_words::MOST_ELEMENTS <= book[book_words::ELEMENTS] {
+        return 8;
+    }
+    let e = enrolled(book, category, chain, code, amount, distance);
+    if book_words::passes_activity(book, e) {
+        return 10;
+    }
+    0
+}
+
+// The element that an enrolment appends: its activity by its category's kind, its shares 0.
+fn enrolled(
+    book: &[u64],
+    category: u64,
+    chain: u64,
+    code: u64,
+    amount: u64,
+    distance: u64,
+) -> Element
+    requires { ⌜ sound (now book) ≡ true ⌝ }
+    requires { ⌜ between 1 (categories (now book)) category ≡ true ⌝ }
+    requires { ⌜ isCode code ≡ true ⌝ }
+    requires { ⌜ isAmount code amount ≡ true ⌝ }
+    requires { ⌜ isDistance (categoryOf (now book) category .kind) distance ≡ true ⌝ }
+    ensures { λ r. ⌜ r ≡ enrolledElement (now (book .entry)) category chain code amount distance ⌝ }
+{
+    let r = book_words::category_of(book, category);
+    Element {
+        category,
+        chain,
+        code,
+        amount,
+        distance,
+        activity: book_words::activity(r.kind, code, amount, distance),
+        operation: 0,
+        provision: 0,
+    }
+}

@@ -1,0 +1,77 @@
+-- Capped sums and products: they decide every ground as the sums and products do. Assumes nothing.
+use mathlib.Core.Logic.{⊎-elim}
+use mathlib.Core.Path.{ap, _≡_, _∙_, sym}
+use Prim.Native.Nat.{ℕ, _≤_, _+_, _*_, zero, suc, _<_, _/_}
+use native.Mathlib.Nat.{mul-zero, mul-le-mul-left, div-lt-iff-lt-mul, le-div-iff-mul-le}
+use native.Mathlib.Omega.{arith}
+use lib.Dec.{ltb, leb, eqb}
+use borrow.Author.Tests.{lt-ltb, lt-leb, ne-eqb}
+use Rattle.apportion.specs.Dividing.{largest}
+use Rattle.book_words.specs.Totals.{capped, mostActivity}
+use Rattle.apportion.proofs.Sums.{below-or-not}
+
+pub capped-small : (n : ℕ) → n ≤ largest → capped n ≡ n
+capped-small n h = omega arith
+
+pub capped-add : (a b : ℕ) → capped (capped a + b) ≡ capped (a + b)
+capped-add a b = omega arith
+
+pub capped-both : (a b : ℕ) → capped (capped a + capped b) ≡ capped (a + b)
+capped-both a b = omega arith
+
+-- a product of a capped number
+pub capped-times : (a b : ℕ) → capped (capped a * b) ≡ capped (a * b)
+capped-times a zero = rw (mul-zero, mul-zero)
+capped-times a (suc b) =
+    ⊎-elim
+    (λ (l : a < suc largest). rw (capped-small a (omega arith)))
+    (λ (g : suc largest ≤ a).
+    let e : capped a ≡ suc largest = omega arith in
+    let more : a * 1 ≤ a * suc b = mul-le-mul-left a (omega arith) in
+    rw e (omega (arith, more)))
+    (below-or-not a (suc largest))
+
+-- a product by the quotient of its limit
+pub product-over : (a b : ℕ) → 0 < b → largest / b < a → largest < a * b
+product-over a b some h = div-lt-iff-lt-mul {x = largest} some .0 h
+
+pub product-within : (a b : ℕ) → 0 < b → a ≤ largest / b → a * b ≤ largest
+product-within a b some h = le-div-iff-mul-le {y = largest} some .0 h
+
+pub capped-more : (a b : ℕ) → capped (a + capped b) ≡ capped (a + b)
+capped-more a b = omega arith
+
+-- a capped sum passes a limit as the sum does
+pub capped-over : (n : ℕ) → ltb largest (capped n) ≡ ltb largest n
+capped-over n =
+    ⊎-elim
+    (λ (l : n < suc largest). rw (capped-small n (omega arith)))
+    (λ (g : suc largest ≤ n). lt-ltb largest (capped n) (omega arith) ∙ sym (lt-ltb largest n (omega arith)))
+    (below-or-not n (suc largest))
+
+pub capped-past : (a b : ℕ) → ltb mostActivity (capped a + capped b) ≡ ltb mostActivity (a + b)
+capped-past a b =
+    ⊎-elim
+    (λ (l : a + b < suc largest). rw (capped-small a (omega arith), capped-small b (omega arith)))
+    (λ (g : suc largest ≤ a + b).
+    lt-ltb mostActivity (capped a + capped b) (omega arith) ∙ sym (lt-ltb mostActivity (a + b) (omega arith)))
+    (below-or-not (a + b) (suc largest))
+
+-- a capped sum is within a limit as the sum is
+pub capped-within : (limit n : ℕ) → limit ≤ largest → leb (capped n) limit ≡ leb n limit
+capped-within limit n h =
+    ⊎-elim
+    (λ (l : n < suc largest). rw (capped-small n (omega arith)))
+    (λ (g : suc largest ≤ n). lt-leb (capped n) limit (omega arith) ∙ sym (lt-leb n limit (omega arith)))
+    (below-or-not n (suc largest))
+
+-- of two numbers of which one is within the cap, the capped are equal as the numbers are
+pub capped-equal : (a b : ℕ) → b ≤ largest → eqb (capped a) (capped b) ≡ eqb a b
+capped-equal a b h =
+    ⊎-elim
+    (λ (l : a < suc largest). rw (capped-small a (omega arith), capped-small b h))
+    (λ (g : suc largest ≤ a). ne-eqb (capped a) (capped b) (λ e. omega arith) ∙ sym (ne-eqb a b (λ e. omega arith)))
+    (below-or-not a (suc largest))
+
+pub capped-added : (a b : ℕ) → ltb largest (a + capped b) ≡ ltb largest (a + b)
+capped-added a b = sym (capped-over (a + capped b)) ∙ ap (ltb largest) (capped-more a b) ∙ capped-over (a + b)

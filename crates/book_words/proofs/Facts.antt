@@ -1,0 +1,109 @@
+-- What a sound book has. Assumes nothing.
+use mathlib.Core.Bool.{true, _&&_, false, and-true}
+use mathlib.Core.List.{List}
+use mathlib.Core.Path.{_≡_, refl}
+use Prim.Native.Nat.{ℕ, _≤_}
+use lib.Dec.{leb, eqb}
+use lib.ListN.{length}
+use borrow.Author.Tests.{leb-true, eqb-true}
+use Rattle.apportion.specs.Dividing.{largest}
+use Rattle.apportion.specs.Places.{at}
+use Rattle.book_words.specs.Book.{mark, bookLength, categories, mostCategories, entries, mostEntries, elements, mostElements}
+use Rattle.book_words.specs.Parts.{Counted, Limited, countIn, recordFine}
+use Rattle.book_words.specs.Soundness.{headerFine, sumsFine, categoriesFine, entriesFine, elementsFine, closingsFine, sound, allBelow}
+use Rattle.book_words.specs.Totals.{emitted, operation, provision, activities, mostActivity}
+use Rattle.book_words.proofs.Booleans.{both, and-false}
+
+module _ (ws : List ℕ) where
+  header-parts : headerFine ws ≡ true → Counted ws × (at ws 0 ≡ mark)
+  unfolding headerFine
+  header-parts e =
+      let long = leb bookLength (length ws) in
+      let marked = eqb (at ws 0) mark in
+      let one = leb (categories ws) mostCategories in
+      let two = leb (entries ws) mostEntries in
+      let three = leb (elements ws) mostElements in
+      let a = both (long && marked && one && two) three e in
+      let b = both (long && marked && one) two (a .0) in
+      let d = both (long && marked) one (b .0) in
+      let f = both long marked (d .0) in (
+        record {
+          long = leb-true bookLength (length ws) (f .0);
+          categories-most = leb-true (categories ws) mostCategories (d .1);
+          entries-most = leb-true (entries ws) mostEntries (b .1);
+          elements-most = leb-true (elements ws) mostElements (a .1);
+        },
+        eqb-true (at ws 0) mark (f .1),
+      )
+
+  pub header-counted : headerFine ws ≡ true → Counted ws
+  header-counted e = header-parts e .0
+
+  pub header-marked : headerFine ws ≡ true → at ws 0 ≡ mark
+  header-marked e = header-parts e .1
+
+  sums-parts : sumsFine ws ≡ true → (emitted ws operation ≤ largest) × (emitted ws provision ≤ largest) × (activities ws ≤ mostActivity)
+  unfolding sumsFine
+  sums-parts e =
+      let one = leb (emitted ws operation) largest in
+      let two = leb (emitted ws provision) largest in
+      let a = both (one && two) (leb (activities ws) mostActivity) e in
+      let b = both one two (a .0) in (
+        leb-true (emitted ws operation) largest (b .0),
+        leb-true (emitted ws provision) largest (b .1),
+        leb-true (activities ws) mostActivity (a .1),
+      )
+
+  pub sums-limited : sumsFine ws ≡ true → Limited ws
+  sums-limited e operation = sums-parts e .0
+  sums-limited e provision = sums-parts e .1
+
+  pub sums-active : sumsFine ws ≡ true → activities ws ≤ mostActivity
+  sums-active e = sums-parts e .2
+
+  -- the parts of the test
+  pub record Parts : Type 0 where
+    pub header : headerFine ws ≡ true
+    pub all-categories : categoriesFine ws ≡ true
+    pub all-entries : entriesFine ws ≡ true
+    pub all-elements : elementsFine ws ≡ true
+    pub sums : sumsFine ws ≡ true
+    pub closings : closingsFine ws ≡ true
+
+  pub sound-parts : sound ws ≡ true → Parts
+  unfolding sound
+  sound-parts e =
+      let h = headerFine ws in
+      let c = categoriesFine ws in
+      let n = entriesFine ws in
+      let l = elementsFine ws in
+      let s = sumsFine ws in
+      let closings = both (h && c && n && l && s) (closingsFine ws) e in
+      let sums = both (h && c && n && l) s (closings .0) in
+      let elements = both (h && c && n) l (sums .0) in
+      let entries = both (h && c) n (elements .0) in
+      let categories = both h c (entries .0) in
+      record {
+        header = categories .0;
+        all-categories = categories .1;
+        all-entries = entries .1;
+        all-elements = elements .1;
+        sums = sums .1;
+        closings = closings .1;
+      }
+
+  pub sound-counted : sound ws ≡ true → Counted ws
+  sound-counted e = header-counted (sound-parts e .header)
+
+  -- the test by its parts, as the code takes them
+  pub sound-no-header : headerFine ws ≡ false → false ≡ sound ws
+  unfolding sound
+  sound-no-header e = rw e
+
+  pub sound-no-sums : sumsFine ws ≡ false → false ≡ sound ws
+  unfolding sound
+  sound-no-sums e = rw (e, and-false (headerFine ws && categoriesFine ws && entriesFine ws && elementsFine ws) false refl)
+
+  pub sound-records : headerFine ws ≡ true → sumsFine ws ≡ true → allBelow 4 (λ t. allBelow (countIn ws t) (recordFine ws t)) ≡ sound ws
+  unfolding sound categoriesFine entriesFine elementsFine closingsFine
+  sound-records h s = rw (h, s, and-true)

@@ -1,0 +1,130 @@
+-- The rules of a record, by what is known of its category's number. Assumes nothing.
+use mathlib.Core.Bool.{not, true, false, _&&_, cond, Bool}
+use mathlib.Core.List.{List}
+use mathlib.Core.Path.{_≡_, sym, _∙_, ap}
+use Prim.Native.Nat.{ℕ, _<_, _≤_, _+_, _*_}
+use native.Mathlib.Omega.{arith}
+use lib.Dec.{eqb, leb}
+use borrow.Author.Tests.{not-true, eq-eqb, ne-eqb, lt-leb, le-leb, leb-true}
+use Rattle.apportion.specs.Dividing.{largest}
+use Rattle.book_words.specs.declared.records.Category.{Category}
+use Rattle.book_words.specs.declared.records.Element.{Element}
+use Rattle.book_words.specs.declared.records.Entry.{Entry}
+use Rattle.book_words.specs.Book.{categories, categoryOf, entries, entryAt, categoryAt}
+use Rattle.book_words.specs.Measures.{between, isGroup, unsuited, unsuitedGroup, isAmount, isDistance, activityOf, isChain, isCode}
+use Rattle.book_words.specs.Parts.{Limited}
+use Rattle.book_words.specs.Soundness.{entryFine, entrySuits, quotedSuits, elementFine, elementSuits, sharesFine, measured, sharesWait}
+use Rattle.book_words.specs.Totals.{Side, unstruckOf, unstruck, allUnstruck, capped, sharesOf, operation, provision}
+use Rattle.apportion.proofs.Sums.{sum-le}
+use Rattle.book_words.proofs.Booleans.{both, cond-false, and-both}
+use Rattle.book_words.proofs.Capping.{capped-equal}
+
+module _ (ws : List ℕ) where
+  pub entry-unnumbered : (r : Entry) → not (between 1 (categories ws) (r .category)) ≡ true → false ≡ entryFine ws r
+  unfolding entryFine
+  entry-unnumbered r e = rw (not-true (between 1 (categories ws) (r .category)) e)
+
+  pub entry-numbered : (r : Entry) → between 1 (categories ws) (r .category) ≡ true → entrySuits (categoryOf ws (r .category)) r ≡ entryFine ws r
+  unfolding entryFine
+  entry-numbered r e = rw e
+
+  pub element-quoted : (r : Element) → r .category ≡ 0 → quotedSuits r ≡ elementFine ws r
+  unfolding elementFine
+  element-quoted r e = rw (eq-eqb (r .category) 0 e)
+
+  pub element-unnumbered : (r : Element) → (r .category ≡ 0 → ⊥) → categories ws < r .category → false ≡ elementFine ws r
+  unfolding elementFine
+  element-unnumbered r ne h = rw (ne-eqb (r .category) 0 ne, lt-leb (r .category) (categories ws) h)
+
+  pub element-numbered : (r : Element) → (r .category ≡ 0 → ⊥) → r .category ≤ categories ws → elementSuits (categoryOf ws (r .category)) r ≡ elementFine ws r
+  unfolding elementFine
+  element-numbered r ne h = rw (ne-eqb (r .category) 0 ne, le-leb (r .category) (categories ws) h)
+
+  -- the category of a record that keeps its rules
+  pub entry-inside : (r : Entry) → entryFine ws r ≡ true → between 1 (categories ws) (r .category) ≡ true
+  unfolding entryFine
+  entry-inside r e = both (between 1 (categories ws) (r .category)) (entrySuits (categoryOf ws (r .category)) r) e .0
+
+  pub element-inside : (r : Element) → (r .category ≡ 0 → ⊥) → elementFine ws r ≡ true → r .category ≤ categories ws
+  unfolding elementFine
+  element-inside r ne e =
+      let rules = leb (r .category) (categories ws) && elementSuits (categoryOf ws (r .category)) r in
+      let mine = sym (cond-false (eqb (r .category) 0) (quotedSuits r) rules (ne-eqb (r .category) 0 ne)) ∙ e in
+      leb-true (r .category) (categories ws) (both (leb (r .category) (categories ws)) (elementSuits (categoryOf ws (r .category)) r) mine .0)
+
+  -- a category's unstruck entries are within 10^18, as all are
+  pub category-limited : Limited ws → (category : ℕ) (side : Side) → unstruckOf ws category side ≤ largest
+  unfolding unstruckOf allUnstruck
+  category-limited h category side =
+      omega (
+        arith,
+        h side,
+        sum-le (entries ws)
+            (λ p. cond (eqb (entryAt ws p .category) category) (unstruck side (entryAt ws p)) 0)
+            (λ p. unstruck side (entryAt ws p))
+            (λ p i. only (eqb (entryAt ws p .category) category) (unstruck side (entryAt ws p))),
+      )
+    where
+      only : (t : Bool) (n : ℕ) → cond t n 0 ≤ n
+      only true n = omega arith
+      only false n = omega arith
+
+  pub shares-open : (place : ℕ) (r : Category) → r ≡ categoryAt ws place → r .closed ≡ 0 → true ≡ sharesFine ws place
+  unfolding sharesFine
+  shares-open place r e none = rw (ap (λ (x : Category). x .closed) (sym e), eq-eqb (r .closed) 0 none)
+
+  -- in a closed category the capped sums are compared
+  pub shares-closed : (place : ℕ) (r : Category) → r ≡ categoryAt ws place → (r .closed ≡ 0 → ⊥) → Limited ws
+      → eqb (capped (sharesOf ws (place + 1) operation)) (capped (unstruckOf ws (place + 1) operation))
+      && eqb (capped (sharesOf ws (place + 1) provision)) (capped (unstruckOf ws (place + 1) provision))
+      ≡ sharesFine ws place
+  unfolding sharesFine
+  shares-closed place r e some h =
+      rw (
+        ap (λ (x : Category). x .closed) (sym e),
+        ne-eqb (r .closed) 0 some,
+        capped-equal (sharesOf ws (place + 1) operation) (unstruckOf ws (place + 1) operation) (category-limited h (place + 1) operation),
+        capped-equal (sharesOf ws (place + 1) provision) (unstruckOf ws (place + 1) provision) (category-limited h (place + 1) provision),
+      )
+
+-- an entry, and an element, whose fields are known to be in range
+pub entry-suits : (k : Category) (r : Entry) → isGroup (r .group) ≡ true → unsuitedGroup (k .kind) (r .group) ≡ false → r .operation ≤ largest → r .provision ≤ largest → r .struck ≤ 1
+    → entrySuits k r ≡ true
+unfolding entrySuits
+entry-suits k r known suited a b struck =
+    and-both (isGroup (r .group) && not (unsuitedGroup (k .kind) (r .group)) && leb (r .operation) largest && leb (r .provision) largest) (leb (r .struck) 1)
+    (and-both (isGroup (r .group) && not (unsuitedGroup (k .kind) (r .group)) && leb (r .operation) largest) (leb (r .provision) largest)
+    (and-both (isGroup (r .group) && not (unsuitedGroup (k .kind) (r .group))) (leb (r .operation) largest)
+    (and-both (isGroup (r .group)) (not (unsuitedGroup (k .kind) (r .group))) known (ap not suited))
+    (le-leb (r .operation) largest a))
+    (le-leb (r .provision) largest b))
+    (le-leb (r .struck) 1 struck)
+
+pub measures-fine : (kind : ℕ) (r : Element) → isAmount (r .code) (r .amount) ≡ true → isDistance kind (r .distance) ≡ true → r .activity ≡ activityOf kind (r .code) (r .amount) (r .distance)
+    → measured kind r ≡ true
+unfolding measured
+measures-fine kind r a d e =
+    and-both (isAmount (r .code) (r .amount) && isDistance kind (r .distance)) (eqb (r .activity) (activityOf kind (r .code) (r .amount) (r .distance)))
+    (and-both (isAmount (r .code) (r .amount)) (isDistance kind (r .distance)) a d)
+    (eq-eqb (r .activity) (activityOf kind (r .code) (r .amount) (r .distance)) e)
+
+pub element-suits : (k : Category) (r : Element) → isChain (r .chain) ≡ true → isCode (r .code) ≡ true → unsuited (k .kind) (r .code) ≡ false
+    → isAmount (r .code) (r .amount) ≡ true → isDistance (k .kind) (r .distance) ≡ true → r .activity ≡ activityOf (k .kind) (r .code) (r .amount) (r .distance)
+    → k .closed ≡ 0 → r .operation ≡ 0 → r .provision ≡ 0
+    → elementSuits k r ≡ true
+unfolding elementSuits
+element-suits k r chain code suited a d e unclosed none nil =
+    and-both (isChain (r .chain) && isCode (r .code) && not (unsuited (k .kind) (r .code)) && measured (k .kind) r) (sharesWait k r)
+    (and-both (isChain (r .chain) && isCode (r .code) && not (unsuited (k .kind) (r .code))) (measured (k .kind) r)
+    (and-both (isChain (r .chain) && isCode (r .code)) (not (unsuited (k .kind) (r .code)))
+    (and-both (isChain (r .chain)) (isCode (r .code)) chain code)
+    (ap not suited))
+    (measures-fine (k .kind) r a d e))
+    (rw (eq-eqb (k .closed) 0 unclosed, eq-eqb (r .operation) 0 none, eq-eqb (r .provision) 0 nil))
+
+pub quoted-suits : (r : Element) → isChain (r .chain) ≡ true → isAmount 0 (r .amount) ≡ true → isDistance 1 (r .distance) ≡ true → r .code ≡ 0 → r .activity ≡ r .amount * r .distance → quotedSuits r ≡ true
+unfolding quotedSuits activityOf
+quoted-suits r chain a d code e =
+    and-both (isChain (r .chain) && eqb (r .code) 0) (measured 1 r)
+    (and-both (isChain (r .chain)) (eqb (r .code) 0) chain (eq-eqb (r .code) 0 code))
+    (measures-fine 1 r (ap (λ (n : ℕ). isAmount n (r .amount)) code ∙ a) d (rw code e))

@@ -1,0 +1,58 @@
+-- `book::soundness::element_fine` meets its contract: quoted, of a category that is not there, or of one that is.
+-- Assumes nothing.
+use mathlib.Core.Path.{_∙_, ap}
+use native.Mathlib.Omega.{arith}
+use borrow.Author.Needs.{needs}
+use Rattle.book_words.specs.declared.records.Category.{Category}
+use Rattle.book_words.specs.Soundness.{elementFine, elementSuits}
+use Rattle.book_words.proofs.Rules.{element-quoted, element-unnumbered, element-numbered}
+use Rattle.book_words.proofs.soundness.element_fine.Statement.{statement}
+use Rattle.book_words.proofs.soundness.element_fine.Tie as tie
+
+read-element-requires : tie.Need-read-element-requires
+read-element-requires c κs = search needs
+
+quoted-suits-requires : tie.Need-quoted-suits-requires
+quoted-suits-requires c κs = search needs
+
+returns : tie.Need-returns
+returns c =
+    let ws = c .before .before .before .before .args .book .now in
+    c .quoted-suits .ensures ∙ element-quoted ws (c .before .before .read-element .result) (c .before .if1 .taken) ∙ ap (elementFine ws) (c .before .before .read-element .ensures)
+
+shared-slice-read-if2 : tie.Need-shared-slice-read-if2
+shared-slice-read-if2 c = search needs
+
+returns-2 : tie.Need-returns-2
+returns-2 c =
+    let ws = c .before .before .before .before .before .args .book .now in
+    element-unnumbered ws (c .before .before .before .read-element .result) (c .before .before .if1 .left) (c .if2 .taken) ∙ ap (elementFine ws) (c .before .before .before .read-element .ensures)
+
+sub-read-category : tie.Need-sub-read-category
+sub-read-category c = omega (arith, c .before .before .if1 .left)
+
+read-category-requires : tie.Need-read-category-requires
+read-category-requires c κs = omega (arith, c .before .before .if1 .left, c .if2 .left, c .before .before .before .before .before .pre .0)
+
+element-suits-requires : tie.Need-element-suits-requires
+element-suits-requires c κs = search needs
+
+returns-3 : tie.Need-returns-3
+returns-3 c =
+    let ws = c .before .before .before .before .before .before .before .args .book .now in
+    let r = c .before .before .before .before .before .read-element .result in
+    c .element-suits .ensures ∙ ap (λ (x : Category). elementSuits x r) (c .before .read-category .ensures) ∙ element-numbered ws r (c .before .before .before .before .if1 .left) (c .before .before .if2 .left) ∙ ap (elementFine ws) (c .before .before .before .before .before .read-element .ensures)
+
+pub element-fine-spec : {M : Type 1} → statement M
+element-fine-spec =
+    tie.close
+    (tie.spec
+    read-element-requires
+    quoted-suits-requires
+    returns
+    shared-slice-read-if2
+    returns-2
+    sub-read-category
+    read-category-requires
+    element-suits-requires
+    returns-3)

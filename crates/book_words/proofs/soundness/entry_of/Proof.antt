@@ -1,0 +1,34 @@
+use native.Mathlib.Omega.{arith}
+use Rattle.book_words.specs.Book.{entries}
+use Rattle.book_words.proofs.Facts.{sound-counted}
+use Rattle.book_words.proofs.Ranges.{between-low, between-high}
+use Rattle.book_words.proofs.soundness.entry_of.Statement.{statement}
+use Rattle.book_words.proofs.soundness.entry_of.Tie as tie
+
+shared-slice-read-if1 : tie.Need-shared-slice-read-if1
+shared-slice-read-if1 c = omega (arith, sound-counted (c .before .before .args .book .now) (c .before .before .pre) .long)
+
+sub-read-entry : tie.Need-sub-read-entry
+sub-read-entry c = omega (arith, between-low 1 (entries (c .before .before .before .args .book .now)) (c .before .before .before .args .number) (c .if1 .taken))
+
+read-entry-requires : tie.Need-read-entry-requires
+read-entry-requires c κs =
+    let counts = sound-counted (c .before .before .before .args .book .now) (c .before .before .before .pre) in (
+      counts .long,
+      omega (
+        arith,
+        counts,
+        between-low 1 (entries (c .before .before .before .args .book .now)) (c .before .before .before .args .number) (c .if1 .taken),
+        between-high 1 (entries (c .before .before .before .args .book .now)) (c .before .before .before .args .number) (c .if1 .taken),
+      ),
+    )
+
+returns : tie.Need-returns
+returns c = rw (c .before .if1 .taken) (c .read-entry .ensures)
+
+returns-2 : tie.Need-returns-2
+returns-2 c = rw (c .if1 .left)
+
+pub entry-of-spec : {M : Type 1} → statement M
+entry-of-spec =
+    tie.close (tie.spec shared-slice-read-if1 sub-read-entry read-entry-requires returns returns-2)

@@ -1,0 +1,36 @@
+-- `book::soundness::shares_fine` meets its contract: open, or closed with the capped sums compared. Assumes nothing.
+use borrow.Author.Needs.{needs}
+use Rattle.book_words.proofs.Rules.{shares-open, shares-closed}
+use Rattle.book_words.proofs.soundness.shares_fine.Statement.{statement}
+use Rattle.book_words.proofs.soundness.shares_fine.Tie as tie
+
+read-category-requires : tie.Need-read-category-requires
+read-category-requires c κs = search needs
+
+returns : tie.Need-returns
+returns c = shares-open (c .before .before .before .before .args .book .now) (c .before .before .before .before .args .place) (c .before .before .read-category .result) (c .before .before .read-category .ensures) (c .if1 .taken)
+
+add-number : tie.Need-add-number
+add-number c = search needs
+
+shares-of-requires : tie.Need-shares-of-requires
+shares-of-requires c κs = search needs
+
+unstruck-of-requires : tie.Need-unstruck-of-requires
+unstruck-of-requires c κs = search needs
+
+returns-2 : tie.Need-returns-2
+returns-2 c =
+    rw (c .before .before .before .before .before .shares-of .ensures, c .before .before .before .before .unstruck-of .ensures)
+    (shares-closed (c .before .before .before .before .before .before .before .before .before .before .args .book .now) (c .before .before .before .before .before .before .before .before .before .before .args .place) (c .before .before .before .before .before .before .before .before .read-category .result) (c .before .before .before .before .before .before .before .before .read-category .ensures) (c .before .before .before .before .before .before .if1 .left) (c .before .before .before .before .before .before .before .before .before .before .pre .1 .0))
+
+pub shares-fine-spec : {M : Type 1} → statement M
+shares-fine-spec =
+    tie.close
+    (tie.spec
+    read-category-requires
+    returns
+    add-number
+    shares-of-requires
+    unstruck-of-requires
+    returns-2)

@@ -1,0 +1,5 @@
+pub mod Book
+pub mod Measures
+pub mod Totals
+pub mod Soundness
+pub mod Parts

@@ -1,0 +1,76 @@
+-- "Units", the codes and the activity of "The book", and the values and ranges of grounds 3, 6 and 7. Assumes nothing.
+use mathlib.Core.Bool.{Bool, _&&_, _||_, cond}
+use Prim.Native.Nat.{ℕ, _*_, _+_, _/_}
+use lib.Dec.{leb, eqb}
+use Rattle.book_words.specs.declared.records.Element.{Element}
+
+abbrev pub between : ℕ → ℕ → ℕ → Bool
+between low high n = leb low n && leb n high
+
+-- "kind (1 freight, 2 passengers, 3 both, 4 freight hub)"
+abbrev pub isKind : ℕ → Bool
+isKind kind = between 1 4 kind
+
+abbrev pub isHub : ℕ → Bool
+isHub kind = eqb kind 4
+
+-- "group (0 benefits all, 1 chilled, 2 frozen)"
+abbrev pub isGroup : ℕ → Bool
+isGroup group = leb group 2
+
+-- "chain (1 to 10,000)"
+abbrev pub isChain : ℕ → Bool
+isChain chain = between 1 10_000 chain
+
+-- "Code 0, 1, 2 is freight, ambient, chilled or frozen, and amount its mass."
+abbrev pub isFreight : ℕ → Bool
+isFreight code = leb code 2
+
+-- "Code 100 to 1000 is a passenger class weight in hundredths of the lowest class, and amount a head count."
+abbrev pub isPassenger : ℕ → Bool
+isPassenger code = between 100 1000 code
+
+abbrev pub isCode : ℕ → Bool
+isCode code = isFreight code || isPassenger code
+
+-- ground 6: "Freight is enrolled in kind 2, passengers in kind 1 or 4"
+abbrev pub unsuited : ℕ → ℕ → Bool
+unsuited kind code = isFreight code && eqb kind 2 || isPassenger code && (eqb kind 1 || eqb kind 4)
+
+-- ground 6: "or group 1 or 2 is posted to kind 2"
+abbrev pub unsuitedGroup : ℕ → ℕ → Bool
+unsuitedGroup kind group = between 1 2 group && eqb kind 2
+
+-- ground 7: "quantity 0 to 10^12"
+abbrev pub isQuantity : ℕ → Bool
+isQuantity quantity = leb quantity 1_000_000_000_000
+
+-- "factor 0 to 10^10"
+abbrev pub isFactor : ℕ → Bool
+isFactor factor = leb factor 10_000_000_000
+
+-- "mass 1 to 10^9, heads 1 to 10^6"
+abbrev pub isAmount : ℕ → ℕ → Bool
+isAmount code amount = cond (isFreight code) (between 1 1_000_000_000 amount) (between 1 1_000_000 amount)
+
+-- "distance 1 to 40,000,000 but only 0 in a hub"
+abbrev pub isDistance : ℕ → ℕ → Bool
+isDistance kind distance = cond (isHub kind) (eqb distance 0) (between 1 40_000_000 distance)
+
+-- "intensity 0 to 10^9"
+abbrev pub isIntensity : ℕ → Bool
+isIntensity intensity = leb intensity 1_000_000_000
+
+-- "Activity is amount × distance for freight, amount in a hub, amount × code × distance for passengers."
+unfoldable pub activityOf : ℕ → ℕ → ℕ → ℕ → ℕ
+activityOf kind code amount distance =
+    cond (isFreight code) (cond (isHub kind) amount (amount * distance)) (amount * code * distance)
+
+-- an element's activity in ground 10: "passengers as in P", which is "head count × 100 × distance (100 kg per
+-- passenger, Annex A.4.2)"
+unfoldable pub counted : Element → ℕ
+counted e = cond (isFreight (e .code)) (e .activity) (e .amount * 100 * e .distance)
+
+-- "nearest, halves up": the whole number nearest to n / d
+abbrev pub nearest : ℕ → ℕ → ℕ
+nearest n d = (2 * n + d) / (2 * d)

@@ -1,0 +1,78 @@
+-- The sums of ground 10 and of soundness. Assumes nothing.
+use mathlib.Core.Bool.{cond, Bool, _||_}
+use mathlib.Core.List.{List}
+use Prim.Native.Nat.{ℕ, _+_, min, suc}
+use lib.Dec.{eqb, ltb}
+use Rattle.apportion.specs.Dividing.{largest}
+use Rattle.apportion.specs.Places.{sumBelow}
+use Rattle.book_words.specs.declared.records.Element.{Element}
+use Rattle.book_words.specs.declared.records.Entry.{Entry}
+use Rattle.book_words.specs.declared.totals.Amounts.{Amounts}
+use Rattle.book_words.specs.Book.{entries, entryAt, elements, elementAt}
+use Rattle.book_words.specs.Measures.{counted}
+
+-- "Operation (VO) and provision (VEP) amounts are kept separate throughout (Formulae 1 to 5)."
+pub data Side : Type 0 where
+  operation provision : Side
+
+-- an entry's amount, and an element's share, of this side
+abbrev pub amountOf : Side → Entry → ℕ
+amountOf operation e = e .operation
+amountOf provision e = e .provision
+
+abbrev pub shareOf : Side → Element → ℕ
+shareOf operation e = e .operation
+shareOf provision e = e .provision
+
+-- "struck (0 or 1)": what an unstruck entry adds
+abbrev pub unstruck : Side → Entry → ℕ
+unstruck side e = cond (eqb (e .struck) 0) (amountOf side e) 0
+
+-- the unstruck entries of all categories
+unfoldable pub allUnstruck : List ℕ → Side → ℕ
+allUnstruck ws side = sumBelow (entries ws) (λ p. unstruck side (entryAt ws p))
+
+-- the unstruck entries of the category of this number
+unfoldable pub unstruckOf : List ℕ → ℕ → Side → ℕ
+unstruckOf ws category side =
+    sumBelow (entries ws) (λ p. cond (eqb (entryAt ws p .category) category) (unstruck side (entryAt ws p)) 0)
+
+-- the shares in the category of this number; those of number 0 are the quoted shares
+unfoldable pub sharesOf : List ℕ → ℕ → Side → ℕ
+sharesOf ws category side =
+    sumBelow (elements ws) (λ p. cond (eqb (elementAt ws p .category) category) (shareOf side (elementAt ws p)) 0)
+
+-- ground 10: "Unstruck entries plus quoted shares"
+abbrev pub emitted : List ℕ → Side → ℕ
+emitted ws side = allUnstruck ws side + sharesOf ws 0 side
+
+-- "10^18 µg in operation or provision" is `largest`
+
+-- ground 10: "activity over all elements (hubs and quotes too, passengers as in P)"
+unfoldable pub activities : List ℕ → ℕ
+activities ws = sumBelow (elements ws) (λ p. counted (elementAt ws p))
+
+-- "10^17"
+abbrev pub mostActivity : ℕ
+mostActivity = 100_000_000_000_000_000
+
+-- ground 10: these amounts "would pass 10^18 µg in operation or provision"
+abbrev pub passesAmounts : List ℕ → ℕ → ℕ → Bool
+passesAmounts ws byOperation byProvision =
+    ltb largest (emitted ws operation + byOperation) || ltb largest (emitted ws provision + byProvision)
+
+-- ground 10: with this element more, "activity over all elements .. would pass 10^17"
+abbrev pub passesActivity : List ℕ → Element → Bool
+passesActivity ws e = ltb mostActivity (activities ws + counted e)
+
+-- an amount of this side, and two amounts by their sides
+abbrev pub sideOf : Side → Amounts → ℕ
+sideOf operation a = a .operation
+sideOf provision a = a .provision
+
+abbrev pub bySides : (Side → ℕ) → Amounts
+bySides amount = record { operation = amount operation; provision = amount provision }
+
+-- A sum of any words may pass 64 bits. The code's sums stop at 10^18 + 1, which decides every ground as the sum does.
+abbrev pub capped : ℕ → ℕ
+capped n = min n (suc largest)

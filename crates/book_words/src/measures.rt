@@ -1,0 +1,71 @@
+// Codes, ranges and activities.
+ghost use mathlib.Core.Path.{_≡_};
+ghost use Rattle.book_words.specs.Measures.{isKind, isGroup, isChain, isCode, unsuited, unsuitedGroup, isQuantity, isFactor, isAmount, isDistance, isIntensity, activityOf};
+ghost use Rattle.book_words.specs.Totals.{capped};
+use crate::totals;
+
+pub fn is_kind(kind: u64) -> bool
+    ensures { λ r. ⌜ r ≡ isKind kind ⌝ }
+{
+    (1 <= kind) & (kind <= 4)
+}
+
+pub fn is_chain(chain: u64) -> bool
+    ensures { λ r. ⌜ r ≡ isChain chain ⌝ }
+{
+    (1 <= chain) & (chain <= 10_000)
+}
+
+pub fn is_code(code: u64) -> bool
+    ensures { λ r. ⌜ r ≡ isCode code ⌝ }
+{
+    (code <= 2) | ((100 <= code) & (code <= 1000))
+}
+
+// Freight in kind 2, or passengers in kind 1 or 4.
+pub fn unsuited(kind: u64, code: u64) -> bool
+    ensures { λ r. ⌜ r ≡ unsuited kind code ⌝ }
+{
+    ((code <= 2) & (kind == 2)) | (((100 <= code) & (code <= 1000)) & ((kind == 1) | (kind == 4)))
+}
+
+// Group 1 or 2 in kind 2.
+pub fn unsuited_group(kind: u64, group: u64) -> bool
+    ensures { λ r. ⌜ r ≡ unsuitedGroup kind group ⌝ }
+{
+    ((1 <= group) & (group <= 2)) & (kind == 2)
+}
+
+// A mass, or a head count.
+pub fn is_amount(code: u64, amount: u64) -> bool
+    ensures { λ r. ⌜ r ≡ isAmount code amount ⌝ }
+{
+    if code <= 2 {
+        (1 <= amount) & (amount <= 1_000_000_000)
+    } else {
+        (1 <= amount) & (amount <= 1_000_000)
+    }
+}
+
+pub fn is_distance(kind: u64, distance: u64) -> bool
+    ensures { λ r. ⌜ r ≡ isDistance kind distance ⌝ }
+{
+    if kind == 4 {
+        distance == 0
+    } else {
+        (1 <= distance) & (distance <= 40_000_000)
+    }
+}
+
+// The activity of an amount over a distance, capped.
+pub fn activity(kind: u64, code: u64, amount: u64, distance: u64) -> u64
+    ensures { λ r. ⌜ r ≡ capped (activityOf kind code amount distance) ⌝ }
+{
+    if code > 2 {
+        return totals::multiply(totals::multiply(amount, code), distance);
+    }
+    if kind == 4 {
+        return totals::add(amount, 0);
+    }
+    totals::multiply(amount, distance)
+}

@@ -1,0 +1,94 @@
+// The records of the book: each is read from its words, and written to them, at its place.
+ghost use mathlib.Core.Path.{_≡_};
+ghost use Prim.Native.Nat.{_+_, _≤_, _<_};
+ghost use lib.ListN.{length};
+ghost use Rattle.book_words.specs.Book.{bookLength, categories, entries, elements, mostCategories, mostEntries, mostElements, categoryAt, entryAt, elementAt, putCategory, putEntry, putElement, addCategory, addEntry, addElement};
+
+// The words of a book.
+pub const BOOK_LENGTH: usize = 2404;
+
+// Word 0 of a book.
+pub const MARK: u64 = 14083;
+
+// Where the counts stand.
+pub const CATEGORIES: usize = 1;
+
+pub const ENTRIES: usize = 2;
+
+pub const ELEMENTS: usize = 3;
+
+// The most records of each list.
+pub const MOST_CATEGORIES: u64 = 16;
+
+pub const MOST_ENTRIES: u64 = 64;
+
+pub const MOST_ELEMENTS: u64 = 256;
+
+pub struct Category {
+    // 1 freight, 2 passengers, 3 both, 4 freight hub.
+    pub kind: u64,
+    pub closed: u64,
+}
+
+pub struct Entry {
+    pub category: u64,
+    // 0 benefits all, 1 chilled, 2 frozen.
+    pub group: u64,
+    pub operation: u64,
+    pub provision: u64,
+    pub struck: u64,
+}
+
+pub struct Element {
+    // 0 when quoted.
+    pub category: u64,
+    pub chain: u64,
+    pub code: u64,
+    pub amount: u64,
+    pub distance: u64,
+    pub activity: u64,
+    pub operation: u64,
+    pub provision: u64,
+}
+
+pub fn read_category(book: &[u64], place: usize) -> Category
+    requires { ⌜ (bookLength ≤ length (now book)) × (place < mostCategories) ⌝ }
+    ensures { λ r. ⌜ r ≡ categoryAt (now (book .entry)) place ⌝ }
+{
+    let at = 4 + 2 * place;
+    Category {
+        kind: book[at],
+        closed: book[at + 1],
+    }
+}
+
+pub fn read_entry(book: &[u64], place: usize) -> Entry
+    requires { ⌜ (bookLength ≤ length (now book)) × (place < mostEntries) ⌝ }
+    ensures { λ r. ⌜ r ≡ entryAt (now (book .entry)) place ⌝ }
+{
+    let at = 36 + 5 * place;
+    Entry {
+        category: book[at],
+        group: book[at + 1],
+        operation: book[at + 2],
+        provision: book[at + 3],
+        struck: book[at + 4],
+    }
+}
+
+pub fn read_element(book: &[u64], place: usize) -> Element
+    requires { ⌜ (bookLength ≤ length (now book)) × (place < mostElements) ⌝ }
+    ensures { λ r. ⌜ r ≡ elementAt (now (book .entry)) place ⌝ }
+{
+    let at = 356 + 8 * place;
+    Element {
+        category: book[at],
+        chain: book[at + 1],
+        code: book[at + 2],
+        amount: book[at + 3],
+        distance: book[at + 4],
+        activity: book[at + 5],
+        operation: book[at + 6],
+        provision: book[at + 7],
+    }
+}

@@ -1,0 +1,240 @@
+// The test of soundness, ground 1: it looks through every record of every list and stops at the first
+// that breaks a rule.
+ghost use mathlib.Core.Path.{_≡_};
+ghost use mathlib.Core.Bool.{true, _&&_};
+ghost use Prim.Native.Nat.{_+_, _<_};
+ghost use Rattle.book_words.specs.Book.{mostCategories, mostEntries, mostElements, entryAt, elementAt};
+ghost use Rattle.book_words.specs.Measures.{isCode};
+ghost use Rattle.book_words.specs.Soundness.{allBelow, headerFine, categoryFine, entrySuits, entryFine, measured as measuredFor, quotedSuits, sharesWait, elementSuits, elementFine, sumsFine, sharesFine, sound};
+ghost use Rattle.book_words.specs.Parts.{Counted, Limited, countIn, recordFine, numberedCategory, numberedEntry};
+use crate::measures;
+use crate::records;
+use crate::records::Category;
+use crate::records::Element;
+use crate::records::Entry;
+use crate::totals;
+
+// The book is sound.
+pub fn is_sound(book: &[u64]) -> bool
+    ensures { λ r. ⌜ r ≡ sound (now (book .entry)) ⌝ }
+{
+    if !header_fine(book) {
+        return false;
+    }
+    if !sums_fine(book) {
+        return false;
+    }
+    records_fine(book)
+}
+
+// The category of this number, or zeros where there is none.
+pub fn category_of(book: &[u64], number: u64) -> Category
+    requires { ⌜ sound (now book) ≡ true ⌝ }
+    ensures { λ r. ⌜ r ≡ numberedCategory (now (book .entry)) number ⌝ }
+{
+    if (1 <= number) & (number <= book[records::CATEGORIES]) {
+        return records::read_category(book, number as usize - 1);
+    }
+    Category { kind: 0, closed: 0 }
+}
+
+// The entry of this number, or zeros where there is none.
+pub fn entry_of(book: &[u64], number: u64) -> Entry
+    requires { ⌜ sound (now book) ≡ true ⌝ }
+    ensures { λ r. ⌜ r ≡ numberedEntry (now (book .entry)) number ⌝ }
+{
+    if (1 <= number) & (number <= book[records::ENTRIES]) {
+        return records::read_entry(book, number as usize - 1);
+    }
+    Entry {
+        category: 0,
+        group: 0,
+        operation: 0,
+        provision: 0,
+        struck: 0,
+    }
+}
+
+// The length, word 0 and the counts.
+fn header_fine(book: &[u64]) -> bool
+    ensures { λ r. ⌜ r ≡ headerFine (now (book .entry)) ⌝ }
+{
+    if book.len() < records::BOOK_LENGTH {
+        return false;
+    }
+    (book[0] == records::MARK)
+        & (book[records::CATEGORIES] <= records::MOST_CATEGORIES)
+        & (book[records::ENTRIES] <= records::MOST_ENTRIES)
+        & (book[records::ELEMENTS] <= records::MOST_ELEMENTS)
+}
+
+// The sums are within the limits of refusal 10.
+fn sums_fine(book: &[u64]) -> bool
+    requires { ⌜ Counted (now book) ⌝ }
+    ensures { λ r. ⌜ r ≡ sumsFine (now (book .entry)) ⌝ }
+{
+    let sum = totals::emitted(book);
+    (sum.operation <= totals::LARGEST)
+        & (sum.provision <= totals::LARGEST)
+        & (totals::activities(book) <= totals::MOST_ACTIVITY)
+}
+
+// Every record of every table keeps the rules.
+fn records_fine(book: &[u64]) -> bool
+    requires { ⌜ Counted (now book) ⌝ }
+    requires { ⌜ Limited (now book) ⌝ }
+    ensures { λ r. ⌜ r ≡ allBelow 4 (λ t. allBelow (countIn (now (book .entry)) t) (recordFine (now (book .entry)) t)) ⌝ }
+{
+    let mut good = true;
+    let mut table = 0;
+    'tables: while table < 4 {
+        let count = count_in(book, table);
+        let mut place = 0;
+        while place < count {
+            if !record_fine(book, table, place) {
+                good = false;
+                break 'tables;
+            }
+            place += 1;
+        }
+        table += 1;
+    }
+    good
+}
+
+// How many records a table has: 0 categories, 1 entries, 2 elements, 3 closings.
+fn count_in(book: &[u64], table: u64) -> usize
+    requires { ⌜ Counted (now book) ⌝ }
+    ensures { λ r. ⌜ r ≡ countIn (now (book .entry)) table ⌝ }
+{
+    if table == 1 {
+        return book[records::ENTRIES] as usize;
+    }
+    if table == 2 {
+        return book[records::ELEMENTS] as usize;
+    }
+    book[records::CATEGORIES] as usize
+}
+
+// The record at this place of a table keeps its rules.
+fn record_fine(book: &[u64], table: u64, place: usize) -> bool
+    requires { ⌜ Counted (now book) ⌝ }
+    requires { ⌜ Limited (now book) ⌝ }
+    requires { ⌜ place < countIn (now book) table ⌝ }
+    ensures { λ r. ⌜ r ≡ recordFine (now (book .entry)) table place ⌝ }
+{
+    if table == 0 {
+        return category_fine(records::read_category(book, place));
+    }
+    if table == 1 {
+        return entry_fine(book, place);
+    }
+    if table == 2 {
+        return element_fine(book, place);
+    }
+    shares_fine(book, place)
+}
+
+fn category_fine(r: Category) -> bool
+    ensures { λ b. ⌜ b ≡ categoryFine r ⌝ }
+{
+    measures::is_kind(r.kind) & (r.closed <= 1)
+}
+
+fn entry_fine(book: &[u64], place: usize) -> bool
+    requires { ⌜ Counted (now book) ⌝ }
+    requires { ⌜ place < mostEntries ⌝ }
+    ensures { λ b. ⌜ b ≡ entryFine (now (book .entry)) (entryAt (now (book .entry)) place) ⌝ }
+{
+    let r = records::read_entry(book, place);
+    let category = r.category;
+    if !((1 <= category) & (category <= book[records::CATEGORIES])) {
+        return false;
+    }
+    entry_suits(records::read_category(book, category as usize - 1), r)
+}
+
+fn entry_suits(category: Category, r: Entry) -> bool
+    ensures { λ b. ⌜ b ≡ entrySuits category r ⌝ }
+{
+    (r.group <= 2)
+        & !measures::unsuited_group(category.kind, r.group)
+        & (r.operation <= totals::LARGEST)
+        & (r.provision <= totals::LARGEST)
+        & (r.struck <= 1)
+}
+
+fn element_fine(book: &[u64], place: usize) -> bool
+    requires { ⌜ Counted (now book) ⌝ }
+    requires { ⌜ place < mostElements ⌝ }
+    ensures { λ b. ⌜ b ≡ elementFine (now (book .entry)) (elementAt (now (book .entry)) place) ⌝ }
+{
+    let r = records::read_element(book, place);
+    let category = r.category;
+    if category == 0 {
+        return quoted_suits(r);
+    }
+    if category > book[records::CATEGORIES] {
+        return false;
+    }
+    element_suits(records::read_category(book, category as usize - 1), r)
+}
+
+fn quoted_suits(r: Element) -> bool
+    ensures { λ b. ⌜ b ≡ quotedSuits r ⌝ }
+{
+    if !(measures::is_chain(r.chain) & (r.code == 0)) {
+        return false;
+    }
+    measured(1, r)
+}
+
+fn element_suits(category: Category, r: Element) -> bool
+    ensures { λ b. ⌜ b ≡ elementSuits category r ⌝ }
+{
+    if !(measures::is_chain(r.chain) & measures::is_code(r.code)) {
+        return false;
+    }
+    if measures::unsuited(category.kind, r.code) {
+        return false;
+    }
+    measured(category.kind, r) & shares_wait(category, r)
+}
+
+// The amount and the distance are in range, and the activity is right.
+fn measured(kind: u64, r: Element) -> bool
+    requires { ⌜ isCode (r .code) ≡ true ⌝ }
+    ensures { λ b. ⌜ b ≡ measuredFor kind r ⌝ }
+{
+    if !(measures::is_amount(r.code, r.amount) & measures::is_distance(kind, r.distance)) {
+        return false;
+    }
+    r.activity == measures::activity(kind, r.code, r.amount, r.distance)
+}
+
+// In an open category the shares are 0.
+fn shares_wait(category: Category, r: Element) -> bool
+    ensures { λ b. ⌜ b ≡ sharesWait category r ⌝ }
+{
+    if category.closed == 0 {
+        return (r.operation == 0) & (r.provision == 0);
+    }
+    true
+}
+
+// In a closed category the shares sum to the unstruck entries.
+fn shares_fine(book: &[u64], place: usize) -> bool
+    requires { ⌜ Counted (now book) ⌝ }
+    requires { ⌜ Limited (now book) ⌝ }
+    requires { ⌜ place < mostCategories ⌝ }
+    ensures { λ b. ⌜ b ≡ sharesFine (now (book .entry)) place ⌝ }
+{
+    let r = records::read_category(book, place);
+    if r.closed == 0 {
+        return true;
+    }
+    let number = place as u64 + 1;
+    let shares = totals::shares_of(book, number);
+    let unstruck = totals::unstruck_of(book, number);
+    (shares.operation == unstruck.operation) & (shares.provision == unstruck.provision)
+}

@@ -1,0 +1,211 @@
+// The sums of ground 10 and of soundness. A sum stops at 10^18 + 1, where it has passed every limit.
+ghost use mathlib.Core.Path.{_≡_};
+ghost use mathlib.Core.Bool.{true, cond};
+ghost use Prim.Native.Nat.{_+_, _*_, _≤_};
+ghost use lib.Dec.{eqb};
+ghost use Rattle.apportion.specs.Dividing.{largest};
+ghost use Rattle.book_words.specs.Book.{entryAt, elementAt};
+ghost use Rattle.book_words.specs.Measures.{counted as countedOf};
+ghost use Rattle.book_words.specs.Totals.{capped, sideOf, bySides, emitted as emittedBy, allUnstruck, unstruckOf, sharesOf, passesAmounts, passesActivity, activities as activitiesIn, unstruck as unstruckBy, shareOf};
+ghost use Rattle.book_words.specs.Soundness.{sound};
+ghost use Rattle.book_words.specs.Parts.{Counted};
+use crate::records;
+use crate::records::Element;
+use crate::records::Entry;
+
+// The largest sum of unstruck entries and quoted shares, 10^18 µg.
+pub const LARGEST: u64 = 1_000_000_000_000_000_000;
+
+// The largest sum of activities, 10^17.
+pub const MOST_ACTIVITY: u64 = 100_000_000_000_000_000;
+
+// An amount of operation and one of provision, kept apart.
+pub struct Amounts {
+    pub operation: u64,
+    pub provision: u64,
+}
+
+// a + b, capped.
+pub fn add(a: u64, b: u64) -> u64
+    ensures { λ r. ⌜ r ≡ capped (a + b) ⌝ }
+{
+    if a > LARGEST {
+        return LARGEST + 1;
+    }
+    if b > LARGEST - a {
+        return LARGEST + 1;
+    }
+    a + b
+}
+
+// a × b, capped.
+pub fn multiply(a: u64, b: u64) -> u64
+    ensures { λ r. ⌜ r ≡ capped (a * b) ⌝ }
+{
+    if b == 0 {
+        return 0;
+    }
+    if a > LARGEST / b {
+        return LARGEST + 1;
+    }
+    a * b
+}
+
+// Both sides of a + b, capped.
+fn add_sides(a: Amounts, b: Amounts) -> Amounts
+    ensures { λ r. ⌜ r ≡ bySides (λ s. capped (sideOf s a + sideOf s b)) ⌝ }
+{
+    Amounts {
+        operation: add(a.operation, b.operation),
+        provision: add(a.provision, b.provision),
+    }
+}
+
+// What an entry adds: its amounts, or nothing where it is struck.
+fn unstruck(e: Entry) -> Amounts
+    ensures { λ r. ⌜ r ≡ bySides (λ s. unstruckBy s e) ⌝ }
+{
+    if e.struck == 0 {
+        return Amounts {
+            operation: e.operation,
+            provision: e.provision,
+        };
+    }
+    Amounts {
+        operation: 0,
+        provision: 0,
+    }
+}
+
+// The unstruck entries.
+fn all_unstruck(book: &[u64]) -> Amounts
+    requires { ⌜ Counted (now book) ⌝ }
+    ensures { λ r. ⌜ r ≡ bySides (λ s. capped (allUnstruck (now (book .entry)) s)) ⌝ }
+{
+    let count = book[records::ENTRIES] as usize;
+    let mut sum = Amounts {
+        operation: 0,
+        provision: 0,
+    };
+    let mut place = 0;
+    while place < count {
+        sum = add_sides(sum, unstruck(records::read_entry(book, place)));
+        place += 1;
+    }
+    sum
+}
+
+// What an entry adds to this category.
+fn unstruck_in(category: u64, e: Entry) -> Amounts
+    ensures { λ r. ⌜ r ≡ bySides (λ s. cond (eqb (e .category) category) (unstruckBy s e) 0) ⌝ }
+{
+    if e.category == category {
+        return unstruck(e);
+    }
+    Amounts {
+        operation: 0,
+        provision: 0,
+    }
+}
+
+// The unstruck entries of a category.
+pub fn unstruck_of(book: &[u64], category: u64) -> Amounts
+    requires { ⌜ Counted (now book) ⌝ }
+    ensures { λ r. ⌜ r ≡ bySides (λ s. capped (unstruckOf (now (book .entry)) category s)) ⌝ }
+{
+    let count = book[records::ENTRIES] as usize;
+    let mut sum = Amounts {
+        operation: 0,
+        provision: 0,
+    };
+    let mut place = 0;
+    while place < count {
+        sum = add_sides(sum, unstruck_in(category, records::read_entry(book, place)));
+        place += 1;
+    }
+    sum
+}
+
+// The shares of an element of this category; nothing for another's.
+fn share_in(category: u64, e: Element) -> Amounts
+    ensures { λ r. ⌜ r ≡ bySides (λ s. cond (eqb (e .category) category) (shareOf s e) 0) ⌝ }
+{
+    if e.category == category {
+        return Amounts {
+            operation: e.operation,
+            provision: e.provision,
+        };
+    }
+    Amounts {
+        operation: 0,
+        provision: 0,
+    }
+}
+
+// The shares in a category, or the quoted shares for category 0.
+pub fn shares_of(book: &[u64], category: u64) -> Amounts
+    requires { ⌜ Counted (now book) ⌝ }
+    ensures { λ r. ⌜ r ≡ bySides (λ s. capped (sharesOf (now (book .entry)) category s)) ⌝ }
+{
+    let count = book[records::ELEMENTS] as usize;
+    let mut sum = Amounts {
+        operation: 0,
+        provision: 0,
+    };
+    let mut place = 0;
+    while place < count {
+        sum = add_sides(sum, share_in(category, records::read_element(book, place)));
+        place += 1;
+    }
+    sum
+}
+
+// Unstruck entries plus quoted shares.
+pub fn emitted(book: &[u64]) -> Amounts
+    requires { ⌜ Counted (now book) ⌝ }
+    ensures { λ r. ⌜ r ≡ bySides (λ s. capped (emittedBy (now (book .entry)) s)) ⌝ }
+{
+    add_sides(all_unstruck(book), shares_of(book, 0))
+}
+
+// An element's activity, passengers as in P.
+fn counted(e: Element) -> u64
+    ensures { λ r. ⌜ r ≡ capped (countedOf e) ⌝ }
+{
+    if e.code <= 2 {
+        return add(0, e.activity);
+    }
+    multiply(multiply(e.amount, 100), e.distance)
+}
+
+// The activity over all elements.
+pub fn activities(book: &[u64]) -> u64
+    requires { ⌜ Counted (now book) ⌝ }
+    ensures { λ r. ⌜ r ≡ capped (activitiesIn (now (book .entry))) ⌝ }
+{
+    let count = book[records::ELEMENTS] as usize;
+    let mut sum = 0;
+    let mut place = 0;
+    while place < count {
+        sum = add(sum, counted(records::read_element(book, place)));
+        place += 1;
+    }
+    sum
+}
+
+// These amounts would bring operation or provision over 10^18.
+pub fn passes_amounts(book: &[u64], by_operation: u64, by_provision: u64) -> bool
+    requires { ⌜ sound (now book) ≡ true ⌝ }
+    ensures { λ r. ⌜ r ≡ passesAmounts (now (book .entry)) «by_operation» «by_provision» ⌝ }
+{
+    let sum = emitted(book);
+    (LARGEST < add(sum.operation, by_operation)) | (LARGEST < add(sum.provision, by_provision))
+}
+
+// This element would bring the activity over 10^17.
+pub fn passes_activity(book: &[u64], e: Element) -> bool
+    requires { ⌜ sound (now book) ≡ true ⌝ }
+    ensures { λ r. ⌜ r ≡ passesActivity (now (book .entry)) e ⌝ }
+{
+    MOST_ACTIVITY < activities(book) + counted(e)
+}

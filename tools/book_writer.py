@@ -1,0 +1,180 @@
+"""Adds calls of the book to the cases, and keeps count of their answers."""
+
+import book
+import calculation
+import player
+from book import CATEGORIES, ELEMENTS, ENTRIES
+
+LARGEST = 2 ** 64 - 1
+EMISSIONS = 10 ** 18     # the limits of ground 10
+ACTIVITY = 10 ** 17
+FARTHEST = 40_000_000    # the longest distance
+
+# Numbers that are a small one in their lowest 8, 16 or 32 bits,
+# and the largest.
+FAR = (2 ** 8, 2 ** 8 + 1, 2 ** 16 + 1, 2 ** 32, 2 ** 32 + 1, 2 ** 63,
+       2 ** 63 + 1, LARGEST - 1, LARGEST)
+
+# What a strike of entry 0 gives.
+SOUND = 2
+UNSOUND = 1
+
+OPERATIONS = {
+    "fresh": player.FRESH,
+    "open": player.OPEN,
+    "post": player.POST,
+    "strike": player.STRIKE,
+    "enrol": player.ENROL,
+    "quote": player.QUOTE,
+}
+
+
+class BookCases:
+    """Adds calls and keeps count of what they tested."""
+
+    def __init__(self, cases):
+        self.cases = cases
+        self.answers = {}  # (call, refusal number) -> how many
+        self.pairs = {}    # (call, ground, later ground) -> how many
+
+    # Calls.
+
+    def call(self, name, *arguments, gives=0):
+        """Makes a call; `gives` is its refusal number, None for any."""
+        numbers = self.cases.record(OPERATIONS[name], *arguments)
+        if gives is not None and numbers[0] != gives:
+            raise AssertionError("%s%r gives %d, not %d"
+                                 % (name, arguments, numbers[0], gives))
+        key = (name, numbers[0])
+        self.answers[key] = self.answers.get(key, 0) + 1
+        return numbers
+
+    def fresh(self, gives=0):
+        return self.call("fresh", gives=gives)
+
+    def open(self, kind, gives=0):
+        return self.call("open", kind, gives=gives)
+
+    def post(self, *arguments, gives=0):
+        return self.call("post", *arguments, gives=gives)
+
+    def strike(self, entry, gives=0):
+        return self.call("strike", entry, gives=gives)
+
+    def enrol(self, *arguments, gives=0):
+        return self.call("enrol", *arguments, gives=gives)
+
+    def quote(self, *arguments, gives=0):
+        return self.call("quote", *arguments, gives=gives)
+
+    def new_book(self, *kinds):
+        self.fresh()
+        for kind in kinds:
+            self.open(kind)
+
+    def each_call(self, gives):
+        """Each call but fresh, with arguments that a book accepts whose
+        category 1 is open and of kind 1 or 3."""
+        self.open(3, gives=gives)
+        self.post(1, 2, 3, 4, 5, gives=gives)
+        self.strike(1, gives=gives)
+        self.enrol(1, 7, 0, 8, 9, gives=gives)
+        self.quote(10_000, 1, 11, 12, 13, 14, gives=gives)
+
+    # The array.
+
+    @property
+    def words(self):
+        return self.cases.player.state.words
+
+    def poke(self, index, value):
+        """Writes a word, where it does not hold that value yet."""
+        if self.words[index] != value:
+            self.cases.record(player.POKE, index, value)
+
+    def poke_record(self, listing, number, record):
+        for index, value in enumerate(record, book.place(listing, number)):
+            self.poke(index, value)
+
+    def lend(self, count):
+        self.cases.record(player.LEND, count)
+
+    def dump(self, first, count):
+        self.cases.record(player.DUMP, first, count)
+
+    def dump_all(self):
+        self.dump(0, player.MOST_WORDS)
+
+    def dump_record(self, listing, number):
+        self.dump(book.place(listing, number), book.size(listing))
+
+    def dump_book(self):
+        """The header and the categories, then the counted entries and
+        elements, each with the record after them."""
+        self.dump(0, ENTRIES.start)
+        for listing in (ENTRIES, ELEMENTS):
+            count = min(self.words[listing.count] + 1, listing.most)
+            self.dump(listing.start, count * book.size(listing))
+
+    # Soundness.
+
+    def is_sound(self):
+        self.strike(0, gives=SOUND)
+
+    def is_unsound(self):
+        self.strike(0, gives=UNSOUND)
+
+    def tried(self, changes, gives=None):
+        """Writes words, tries the book and writes the old words back.
+        `changes` are pairs of an index and a value."""
+        old = [(index, self.words[index]) for index, _ in changes]
+        for index, value in changes:
+            self.poke(index, value)
+        self.strike(0, gives=gives)
+        for index, value in old:
+            self.poke(index, value)
+
+    # A book at some distance from the limits of ground 10.
+
+    def fill_emissions(self, category, operation_left, provision_left):
+        """Two posts that leave so much of 10^18."""
+        part = 10 ** 9
+        old = book.Book(self.words)
+        operation = (EMISSIONS - operation_left
+                     - book.emissions_of(old, "operation"))
+        provision = (EMISSIONS - provision_left
+                     - book.emissions_of(old, "provision"))
+        self.post(category, 0, part, operation // part, provision // part)
+        self.post(category, 0, 1, operation % part, provision % part)
+
+    def fill_activity(self, freight, hub, left):
+        """Freight, then one element of a hub, that leave so much of 10^17."""
+        mass = 10 ** 9
+        missing = ACTIVITY - left - book.whole_activity(book.Book(self.words))
+        while missing >= mass:
+            distance = min(missing // mass, FARTHEST)
+            self.enrol(freight, 1, 0, mass, distance)
+            missing -= mass * distance
+        if missing > 0:
+            self.enrol(hub, 1, 0, missing, 0)
+
+    # A closed category.
+
+    def close(self, number):
+        """Writes the shares, by activity, and the closed word directly."""
+        old = book.Book(self.words)
+        unstruck = book.unstruck(old.entries_of(number))
+        places = [place for place, element in enumerate(old.elements, 1)
+                  if element.category == number]
+        weights = [old.elements[place - 1].activity for place in places]
+        for amount in book.AMOUNTS:
+            shares = calculation.shares_of(book.total(unstruck, amount),
+                                           weights)
+            for place, share in zip(places, shares):
+                self.poke(word(ELEMENTS, place, amount), share)
+        self.poke(word(CATEGORIES, number, "closed"), 1)
+
+
+def word(listing, number, field):
+    """The index of a record's field."""
+    return book.place(listing, number) + listing.form._fields.index(field)

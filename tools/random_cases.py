@@ -1,0 +1,155 @@
+"""Random lists of calls; none says which refusal number it gives."""
+
+import book
+from book import CATEGORIES, ELEMENTS, ENTRIES
+from book_writer import FARTHEST, LARGEST
+
+LARGE = 64  # the scale of measures that soon meet the limits of ground 10
+
+
+def by_bits(rng, most_bits):
+    """A number of 0 to most_bits bits, each length as likely."""
+    return rng.getrandbits(64) >> (64 - rng.randrange(most_bits + 1))
+
+
+def one_of(rng, choices):
+    return choices[rng.randrange(len(choices))]
+
+
+def random_measure(rng, numbers, scale):
+    """A measure of a range. `scale` is how many bits it has at most; in
+    LARGE every other one is a part of the largest."""
+    sort = rng.randrange(8)
+    if scale == LARGE and sort < 4:
+        number = numbers[-1] // (1 + rng.randrange(9))
+    elif sort == 6:
+        number = numbers[-1]
+    elif sort == 7:
+        number = numbers[0]
+    else:
+        number = numbers[0] + by_bits(rng, numbers[-1].bit_length())
+    return max(numbers[0], min(number, numbers[-1], 2 ** scale))
+
+
+def random_call(cases, rng, scale):
+    """A call with arguments in their ranges."""
+    def measure(numbers):
+        return random_measure(rng, numbers, scale)
+
+    words = cases.words
+    category = 1 + rng.randrange(max(1, words[1] % 17))
+    kind = words[book.place(CATEGORIES, category)]
+    chain = one_of(rng, (1, 2, 3, 10_000, 1 + rng.randrange(10_000)))
+    sort = rng.randrange(100)
+    if sort < 4:
+        return "open", (1 + rng.randrange(4),)
+    if sort < 26:
+        group = 0 if kind == 2 else rng.randrange(3)
+        return "post", (category, group, measure(book.QUANTITIES),
+                        measure(book.FACTORS), measure(book.FACTORS))
+    if sort < 36:
+        return "strike", (1 + rng.randrange(max(1, words[2] % 65)),)
+    if sort < 80:
+        passengers = kind == 2 or kind == 3 and rng.randrange(2) == 0
+        code = 100 + rng.randrange(901) if passengers else rng.randrange(3)
+        return "enrol", (category, chain, code,
+                         measure(book.amounts_of(code)),
+                         0 if kind == 4 else measure(book.DISTANCES))
+    return "quote", (chain, rng.randrange(2), measure(book.MASSES),
+                     measure(book.DISTANCES), measure(book.INTENSITIES),
+                     measure(book.INTENSITIES))
+
+
+WILD = (0, 1, 2, 3, 4, 5, 15, 16, 17, 63, 64, 65, 99, 100, 101, 255, 256, 257,
+        499, 500, 999, 1000, 1001, 10_000, 10_001, 95_000, 10 ** 6,
+        10 ** 6 + 1, FARTHEST, FARTHEST + 1, 10 ** 9, 10 ** 9 + 1, 10 ** 10,
+        10 ** 10 + 1, 10 ** 12, 10 ** 12 + 1, 10 ** 17, 10 ** 18, 2 ** 31,
+        2 ** 32, 2 ** 32 + 1, 2 ** 63, LARGEST - 1, LARGEST)
+
+
+def wild_call(cases, rng):
+    """A call with up to two arguments that are any numbers."""
+    name, arguments = random_call(cases, rng, one_of(rng, (20, 30, LARGE)))
+    arguments = list(arguments)
+    for _ in range(rng.randrange(3)):
+        place = rng.randrange(len(arguments))
+        arguments[place] = (by_bits(rng, 64) if rng.randrange(4) == 0
+                            else one_of(rng, WILD))
+    return name, arguments
+
+
+def play_random(cases, rng, name, arguments):
+    """Makes the call; now and then shows the record that it made."""
+    numbers = cases.call(name, *arguments, gives=None)
+    if numbers[0] == 0 and len(numbers) == 2 and rng.randrange(8) == 0:
+        listing = {"open": CATEGORIES, "post": ENTRIES}.get(name, ELEMENTS)
+        cases.dump_record(listing, numbers[1])
+
+
+def close_some(cases, rng):
+    """Closes a category that can be, by writing its words."""
+    old = book.Book(cases.words)
+    number = 1 + rng.randrange(max(1, len(old.categories)))
+    if (old.has_category(number) and not old.is_closed(number)
+            and old.elements_of(number)):
+        cases.close(number)
+
+
+def lists_in_range(cases, rng):
+    for scale in (4, 10, 20, 24, 28, 32, 40, LARGE, LARGE, LARGE):
+        cases.new_book(*[1 + rng.randrange(4)
+                         for _ in range(1 + rng.randrange(5))])
+        for number in range(200):
+            if number % 60 == 50:
+                close_some(cases, rng)
+            play_random(cases, rng, *random_call(cases, rng, scale))
+        cases.dump_all()
+
+
+def wild_lists(cases, rng):
+    for _ in range(6):
+        cases.new_book(1, 2, 3, 4)
+        for number in range(240):
+            if number % 80 == 60:
+                close_some(cases, rng)
+            play_random(cases, rng, *wild_call(cases, rng))
+        cases.dump_all()
+
+
+def lists_with_damage(cases, rng):
+    """Words that change between calls, by a bit or altogether."""
+    for _ in range(5):
+        cases.new_book(1, 2, 3, 4)
+        for number in range(30):
+            play_random(cases, rng, *random_call(cases, rng, 20))
+        for number in range(90):
+            if number % 30 == 0:
+                close_some(cases, rng)
+            if rng.randrange(2) == 0:
+                play_random(cases, rng, *random_call(cases, rng, 20))
+                continue
+            index = some_word(cases, rng)
+            old = cases.words[index]
+            new = (old ^ 1 << rng.randrange(64) if rng.randrange(2) == 0
+                   else one_of(rng, WILD))
+            cases.poke(index, new)
+            play_random(cases, rng, *random_call(cases, rng, 20))
+            if cases.words[index] == new:
+                cases.poke(index, old)
+            cases.strike(0, gives=None)
+        cases.dump_all()
+
+
+def some_word(cases, rng):
+    """A word of the header, of a counted record or of the next one."""
+    if rng.randrange(8) == 0:
+        return rng.randrange(4)
+    listing = one_of(rng, book.LISTINGS)
+    count = min(cases.words[listing.count] + 1, listing.most)
+    return listing.start + rng.randrange(count * book.size(listing))
+
+
+def add(cases, rng):
+    lists_in_range(cases, rng)
+    wild_lists(cases, rng)
+    lists_with_damage(cases, rng)
