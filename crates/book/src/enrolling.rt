@@ -50,6 +50,7 @@ pub fn enrol_sound(
     appending::add_element(book, e)
 }
 
+// The number of the first ground that holds, or 0.
 fn refusal_number(
     book: &[u64],
     category: u64,

@@ -32,6 +32,7 @@ pub fn open_sound(book: &mut [u64], kind: u64) -> Reply
     appending::add_category(book, Category { kind, closed: 0 })
 }
 
+// The number of the first ground that holds, or 0.
 fn refusal_number(book: &[u64], kind: u64) -> u64
     requires { ⌜ sound (now book) ≡ true ⌝ }
     ensures { λ r. ⌜ r ≡ openRefusal (now (book .entry)) kind ⌝ }

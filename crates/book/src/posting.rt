@@ -75,6 +75,7 @@ pub fn post_sound(
     )
 }
 
+// The number of the first ground that holds, or 0.
 fn refusal_number(
     book: &[u64],
     category: u64,

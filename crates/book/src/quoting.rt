@@ -81,6 +81,7 @@ pub fn quote_sound(
     appending::add_element(book, e)
 }
 
+// The number of the first ground that holds, or 0.
 fn refusal_number(
     book: &[u64],
     chain: u64,

@@ -29,6 +29,7 @@ pub fn strike_sound(book: &mut [u64], entry: u64) -> u64
     refusal
 }
 
+// The number of the first ground that holds, or 0.
 fn refusal_number(book: &[u64], entry: u64) -> u64
     requires { ⌜ sound (now book) ≡ true ⌝ }
     ensures { λ r. ⌜ r ≡ strikeRefusal (now (book .entry)) entry ⌝ }

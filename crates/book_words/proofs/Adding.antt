@@ -37,10 +37,6 @@ pub record AddingSides (n k : ℕ) (sum : Amounts) (f : Side → ℕ → ℕ) : 
 pub sides-start : (n : ℕ) (f : Side → ℕ → ℕ) → AddingSides n 0 (bySides (λ s. 0)) f
 sides-start n f = record { on-operation = adding-start n (f operation); on-provision = adding-start n (f provision) }
 
--- what the next addition asks
-pub sides-small : {n k : ℕ} {sum : Amounts} {f : Side → ℕ → ℕ} → AddingSides n k sum f → (sum .operation ≤ largest + 1) × (sum .provision ≤ largest + 1)
-sides-small {n} {k} {sum} {f} a = (omega (arith, a .on-operation .so-far), omega (arith, a .on-provision .so-far))
-
 pub sides-next : {n k : ℕ} {sum : Amounts} {f : Side → ℕ → ℕ} (next : Amounts) → AddingSides n k sum f → k < n → next ≡ bySides (λ s. capped (sideOf s sum + f s k)) → AddingSides n (k + 1) next f
 sides-next {n} {k} {sum} {f} next a h e =
     record {

@@ -1,3 +1,5 @@
+-- `book::enrolling::enrolled` meets its contract: the category that is read gives the kind of the activity.
+-- Assumes nothing.
 use mathlib.Core.Path.{ap}
 use borrow.Author.Needs.{needs}
 use Rattle.book_words.specs.Book.{categoryOf}

@@ -1,3 +1,5 @@
+-- `book::enrolling::refusal_number` meets its contract: each return is the ground of its own test, after those that did
+-- not hold. Assumes nothing.
 use mathlib.Core.Bool.{not, true, false, _&&_}
 use mathlib.Core.Path.{sym, ap, _∙_, refl}
 use native.Mathlib.Omega.{arith}

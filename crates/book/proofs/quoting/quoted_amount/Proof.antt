@@ -1,3 +1,5 @@
+-- `book::quoting::quoted_amount` meets its contract: the thousands of mass × D and what is left of it, each multiplied
+-- within 64 bits, make the amount. Assumes nothing.
 use Prim.Native.Nat.{_≤_, ℕ, _*_, _%_}
 use native.Mathlib.Nat.{mul-le-mul, mul-assoc}
 use native.Mathlib.Omega.{arith}

@@ -1,3 +1,5 @@
+-- `book::striking::refusal_number` meets its contract: each return is the ground of its own test, after those that did
+-- not hold. Assumes nothing.
 use mathlib.Core.Bool.{not}
 use mathlib.Core.Path.{sym, ap, _∙_}
 use native.Mathlib.Omega.{arith}

@@ -1,3 +1,4 @@
+-- `book_words::measures::activity` meets its contract: capped products are the capped product. Assumes nothing.
 use mathlib.Core.Path.{ap, _∙_}
 use native.Mathlib.Nat.{add-zero}
 use borrow.Author.Needs.{needs}

@@ -1,4 +1,4 @@
--- `book::measures::is_amount` meets its contract: a mass or a head count, by the code. Assumes nothing.
+-- `book_words::measures::is_amount` meets its contract: a mass or a head count, by the code. Assumes nothing.
 use borrow.Author.Tests.{le-leb, lt-leb}
 use Rattle.book_words.proofs.measures.is_amount.Statement.{statement}
 use Rattle.book_words.proofs.measures.is_amount.Tie as tie

@@ -1,4 +1,4 @@
--- `book::measures::is_distance` meets its contract: 0 in a hub, 1 to 40,000,000 elsewhere. Assumes nothing.
+-- `book_words::measures::is_distance` meets its contract: 0 in a hub, 1 to 40,000,000 elsewhere. Assumes nothing.
 use borrow.Author.Tests.{eq-eqb, ne-eqb}
 use Rattle.book_words.proofs.measures.is_distance.Statement.{statement}
 use Rattle.book_words.proofs.measures.is_distance.Tie as tie

@@ -1,4 +1,4 @@
--- `book::soundness::category_fine` meets its contract: its rules are those of the definition. Assumes nothing.
+-- `book_words::soundness::category_fine` meets its contract: its rules are those of the definition. Assumes nothing.
 use borrow.Author.Needs.{needs}
 use Rattle.book_words.specs.Soundness.{categoryFine}
 use Rattle.book_words.proofs.soundness.category_fine.Statement.{statement}

@@ -1,3 +1,5 @@
+-- `book_words::soundness::category_of` meets its contract: a number that is there names a place within the list.
+-- Assumes nothing.
 use native.Mathlib.Omega.{arith}
 use Rattle.book_words.specs.Book.{categories}
 use Rattle.book_words.proofs.Facts.{sound-counted}

@@ -1,4 +1,4 @@
--- `book::soundness::count_in` meets its contract: a table by its number. Assumes nothing.
+-- `book_words::soundness::count_in` meets its contract: a table by its number. Assumes nothing.
 use mathlib.Core.List.{List}
 use mathlib.Core.Path.{_≡_, refl}
 use Prim.Native.Nat.{ℕ, zero, suc}

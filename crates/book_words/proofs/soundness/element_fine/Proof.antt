@@ -1,4 +1,4 @@
--- `book::soundness::element_fine` meets its contract: quoted, of a category that is not there, or of one that is.
+-- `book_words::soundness::element_fine` meets its contract: quoted, of a category that is not there, or of one that is.
 -- Assumes nothing.
 use mathlib.Core.Path.{_∙_, ap}
 use native.Mathlib.Omega.{arith}

@@ -1,4 +1,4 @@
--- `book::soundness::element_suits` meets its contract: its rules are those of the definition, in their order.
+-- `book_words::soundness::element_suits` meets its contract: its rules are those of the definition, in their order.
 -- Assumes nothing.
 use mathlib.Core.Bool.{_&&_}
 use mathlib.Core.Path.{sym, _∙_}

@@ -1,4 +1,5 @@
--- `book::soundness::entry_fine` meets its contract: of a category that is not there, or of one that is. Assumes nothing.
+-- `book_words::soundness::entry_fine` meets its contract: of a category that is not there, or of one that is.
+-- Assumes nothing.
 use mathlib.Core.Path.{_∙_, ap}
 use native.Mathlib.Omega.{arith}
 use borrow.Author.Needs.{needs}

@@ -1,4 +1,4 @@
--- `book::soundness::entry_suits` meets its contract: its rules are those of the definition. Assumes nothing.
+-- `book_words::soundness::entry_suits` meets its contract: its rules are those of the definition. Assumes nothing.
 use borrow.Author.Needs.{needs}
 use Rattle.book_words.specs.Soundness.{entrySuits}
 use Rattle.book_words.proofs.soundness.entry_suits.Statement.{statement}

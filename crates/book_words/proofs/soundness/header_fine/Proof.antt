@@ -1,4 +1,4 @@
--- `book::soundness::header_fine` meets its contract: a short slice, or the words of the header. Assumes nothing.
+-- `book_words::soundness::header_fine` meets its contract: a short slice, or the words of the header. Assumes nothing.
 use borrow.Author.Needs.{needs}
 use borrow.Author.Tests.{lt-leb, le-leb}
 use Rattle.book_words.specs.Soundness.{headerFine}

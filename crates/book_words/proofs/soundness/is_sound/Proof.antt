@@ -1,4 +1,4 @@
--- `book::soundness::is_sound` meets its contract: header, sums and records make the definition. Assumes nothing.
+-- `book_words::soundness::is_sound` meets its contract: header, sums and records make the definition. Assumes nothing.
 use mathlib.Core.Path.{sym, _∙_}
 use borrow.Author.Needs.{needs}
 use borrow.Author.Tests.{not-true, not-false}

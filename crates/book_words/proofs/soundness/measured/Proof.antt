@@ -1,3 +1,4 @@
+-- `book_words::soundness::measured` meets its contract: amount and distance in range, then the activity. Assumes nothing.
 use mathlib.Core.Bool.{_&&_}
 use mathlib.Core.Path.{sym, _∙_}
 use borrow.Author.Needs.{needs}

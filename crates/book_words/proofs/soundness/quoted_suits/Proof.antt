@@ -1,4 +1,4 @@
--- `book::soundness::quoted_suits` meets its contract: its rules are those of the definition, in their order.
+-- `book_words::soundness::quoted_suits` meets its contract: its rules are those of the definition, in their order.
 -- Assumes nothing.
 use mathlib.Core.Bool.{_&&_}
 use mathlib.Core.Path.{ap}

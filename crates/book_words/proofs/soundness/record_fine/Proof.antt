@@ -1,4 +1,4 @@
--- `book::soundness::record_fine` meets its contract: the record by its table. Assumes nothing.
+-- `book_words::soundness::record_fine` meets its contract: the record by its table. Assumes nothing.
 use mathlib.Core.List.{List}
 use mathlib.Core.Path.{_≡_, refl, _∙_}
 use Prim.Native.Nat.{ℕ, zero, suc}

@@ -1,5 +1,5 @@
--- `book::soundness::records_fine` meets its contract: up to a table every table keeps the rules, and in it up to a place
--- every record; the label is left with a record that does not. Assumes nothing.
+-- `book_words::soundness::records_fine` meets its contract: up to a table every table keeps the rules, and in it up to a
+-- place every record; the label is left with a record that does not. Assumes nothing.
 use mathlib.Core.Bool.{true}
 use mathlib.Core.Path.{_≡_, refl, sym, _∙_}
 use Prim.Native.Nat.{_-_, _≤_, _<_}

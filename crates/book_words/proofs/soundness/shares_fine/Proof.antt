@@ -1,4 +1,5 @@
--- `book::soundness::shares_fine` meets its contract: open, or closed with the capped sums compared. Assumes nothing.
+-- `book_words::soundness::shares_fine` meets its contract: open, or closed with the capped sums compared.
+-- Assumes nothing.
 use borrow.Author.Needs.{needs}
 use Rattle.book_words.proofs.Rules.{shares-open, shares-closed}
 use Rattle.book_words.proofs.soundness.shares_fine.Statement.{statement}

@@ -1,4 +1,4 @@
--- `book::soundness::shares_wait` meets its contract: the shares by the closed word. Assumes nothing.
+-- `book_words::soundness::shares_wait` meets its contract: the shares by the closed word. Assumes nothing.
 use borrow.Author.Tests.{eq-eqb, ne-eqb}
 use Rattle.book_words.proofs.soundness.shares_wait.Statement.{statement}
 use Rattle.book_words.proofs.soundness.shares_wait.Tie as tie

@@ -1,4 +1,4 @@
--- `book::soundness::sums_fine` meets its contract: capped sums are within a limit as the sums are. Assumes nothing.
+-- `book_words::soundness::sums_fine` meets its contract: capped sums are within a limit as the sums are. Assumes nothing.
 use native.Mathlib.Omega.{arith}
 use borrow.Author.Needs.{needs}
 use Rattle.apportion.specs.Dividing.{largest}

@@ -1,4 +1,4 @@
--- `book::totals::activities` meets its contract: up to a place the sum is that of the definition, capped.
+-- `book_words::totals::activities` meets its contract: up to a place the sum is that of the definition, capped.
 -- Assumes nothing.
 use mathlib.Core.Path.{_≡_, refl, _∙_, ap}
 use Prim.Native.Nat.{_-_, ℕ, _+_}

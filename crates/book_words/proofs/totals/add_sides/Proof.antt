@@ -1,3 +1,4 @@
+-- `book_words::totals::add_sides` meets its contract: each side is added by itself. Assumes nothing.
 use borrow.Author.Needs.{needs}
 use Rattle.book_words.proofs.totals.add_sides.Statement.{statement}
 use Rattle.book_words.proofs.totals.add_sides.Tie as tie

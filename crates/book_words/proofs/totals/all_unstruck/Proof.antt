@@ -1,4 +1,4 @@
--- `book::totals::all_unstruck` meets its contract: up to a place both sums are those of the definition, capped.
+-- `book_words::totals::all_unstruck` meets its contract: up to a place both sums are those of the definition, capped.
 -- Assumes nothing.
 use mathlib.Core.Path.{_≡_, refl, _∙_, ap}
 use Prim.Native.Nat.{_-_, _+_}

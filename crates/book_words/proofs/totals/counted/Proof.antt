@@ -1,4 +1,4 @@
--- `book::totals::counted` meets its contract: the activity, or the product as in P, capped. Assumes nothing.
+-- `book_words::totals::counted` meets its contract: the activity, or the product as in P, capped. Assumes nothing.
 use mathlib.Core.Path.{_∙_, ap}
 use native.Mathlib.Nat.{zero-add}
 use borrow.Author.Needs.{needs}

@@ -1,4 +1,4 @@
--- `book::totals::emitted` meets its contract: the sum of two capped sums is the capped sum. Assumes nothing.
+-- `book_words::totals::emitted` meets its contract: the sum of two capped sums is the capped sum. Assumes nothing.
 use borrow.Author.Needs.{needs}
 use Rattle.book_words.proofs.Capping.{capped-both}
 use Rattle.book_words.proofs.totals.emitted.Statement.{statement}

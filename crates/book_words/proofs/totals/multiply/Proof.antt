@@ -1,4 +1,4 @@
--- `book::totals::multiply` meets its contract: the quotient of the limit tells whether the product is within it.
+-- `book_words::totals::multiply` meets its contract: the quotient of the limit tells whether the product is within it.
 -- Assumes nothing.
 use Prim.Native.Nat.{_<_}
 use native.Mathlib.Nat.{mul-zero}

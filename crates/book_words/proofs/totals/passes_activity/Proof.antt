@@ -1,3 +1,4 @@
+-- `book_words::totals::passes_activity` meets its contract: capped sums pass the limit as the sums do. Assumes nothing.
 use native.Mathlib.Omega.{arith}
 use borrow.Author.Needs.{needs}
 use Rattle.book_words.specs.Measures.{counted}

@@ -1,3 +1,5 @@
+-- `book_words::totals::passes_amounts` meets its contract: a capped sum passes the limit as the sum does.
+-- Assumes nothing.
 use Prim.Native.Nat.{_+_}
 use borrow.Author.Needs.{needs}
 use Rattle.book_words.specs.Totals.{emitted, operation, provision}

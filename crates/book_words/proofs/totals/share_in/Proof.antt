@@ -1,4 +1,4 @@
--- `book::totals::share_in` meets its contract: the shares by the category. Assumes nothing.
+-- `book_words::totals::share_in` meets its contract: the shares by the category. Assumes nothing.
 use borrow.Author.Tests.{eq-eqb, ne-eqb}
 use Rattle.book_words.proofs.totals.share_in.Statement.{statement}
 use Rattle.book_words.proofs.totals.share_in.Tie as tie

@@ -1,4 +1,4 @@
--- `book::totals::shares_of` meets its contract: up to a place both sums are those of the definition, capped.
+-- `book_words::totals::shares_of` meets its contract: up to a place both sums are those of the definition, capped.
 -- Assumes nothing.
 use mathlib.Core.Bool.{cond}
 use mathlib.Core.Path.{_≡_, refl, _∙_, ap}

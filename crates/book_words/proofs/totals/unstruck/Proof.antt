@@ -1,4 +1,4 @@
--- `book::totals::unstruck` meets its contract: the amounts by the struck word. Assumes nothing.
+-- `book_words::totals::unstruck` meets its contract: the amounts by the struck word. Assumes nothing.
 use borrow.Author.Tests.{eq-eqb, ne-eqb}
 use Rattle.book_words.proofs.totals.unstruck.Statement.{statement}
 use Rattle.book_words.proofs.totals.unstruck.Tie as tie

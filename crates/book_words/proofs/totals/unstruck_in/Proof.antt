@@ -1,4 +1,4 @@
--- `book::totals::unstruck_in` meets its contract: the amounts by the category. Assumes nothing.
+-- `book_words::totals::unstruck_in` meets its contract: the amounts by the category. Assumes nothing.
 use borrow.Author.Needs.{needs}
 use borrow.Author.Tests.{eq-eqb, ne-eqb}
 use Rattle.book_words.proofs.totals.unstruck_in.Statement.{statement}
