@@ -58,6 +58,10 @@ stopped n rest e = rw e
 pub passes-capped : (ws : List ℕ) (a b : ℕ) → passesAmounts ws (capped a) (capped b) ≡ passesAmounts ws a b
 passes-capped ws a b = rw (capped-added (emitted ws operation) a, capped-added (emitted ws provision) b)
 
+-- ground 10 of a post, from its capped products
+pub post-passes : (ws : List ℕ) (a b a′ b′ : ℕ) (t : Bool) → a′ ≡ capped a → b′ ≡ capped b → t ≡ passesAmounts ws a′ b′ → passesAmounts ws a b ≡ t
+post-passes ws a b a′ b′ t e f is = sym (passes-capped ws a b) ∙ rw (← e, ← f) (sym is)
+
 -- the reply of a refused call and its book
 pub call-refused : (r : Reply) (n m number : ℕ) (new old : List ℕ) → r ≡ record { refusal = n; number = 0 } → n ≡ m → (n ≡ 0 → ⊥) → (r ≡ replyOf m number) × (old ≡ accepted m new old)
 call-refused r n zero number new old e is ne = absurd (ne is)
@@ -72,6 +76,9 @@ call-accepted r n m number new after old is none e f =
 -- a refusal where two tests do not both hold
 pub not-is2 : (a a′ b b′ : Bool) → a ≡ a′ → b ≡ b′ → not (a′ && b′) ≡ not (a && b)
 not-is2 a a′ b b′ e f = rw (e, f)
+
+pub not-is4 : (a a′ b b′ x y : Bool) → a ≡ a′ → b ≡ b′ → not (a′ && b′ && x && y) ≡ not (a && b && x && y)
+not-is4 a a′ b b′ x y e f = rw (e, f)
 
 -- where ground 2 of a strike does not hold
 pub numbered-entry : (ws : List ℕ) (entry : ℕ) → sound ws ≡ true → unnumbered (entries ws) entry ≡ false → (1 ≤ entry) × (entry ≤ entries ws) × (entries ws ≤ mostEntries)

@@ -6,7 +6,7 @@ use Prim.Native.Nat.{ℕ, _+_, _*_, _-_}
 use lib.Dec.{ltb, leb, eqb}
 use lib.ListN.{drop, length, set}
 use Rattle.apportion.specs.Dividing.{refusal}
-use Rattle.apportion.specs.Grounds.{accepted, firstOf}
+use Rattle.apportion.specs.Grounds.{accepted, Ground, firstOf}
 use Rattle.apportion.specs.Places.{listBelow}
 use Rattle.book_words.specs.Book.{bookLength, mark, mostCategories, categories, addCategory, categoryOf, mostEntries, entries, addEntry, entryAt, mostElements, elements, addElement}
 use Rattle.book_words.specs.Measures.{isKind, between, isGroup, unsuited, unsuitedGroup, isQuantity, isFactor, activityOf, isChain, isCode, isAmount, isDistance, nearest, isIntensity}
@@ -24,20 +24,25 @@ replyOf refusal number = record { refusal = refusal; number = accepted refusal n
 unfoldable pub cleared : List ℕ → List ℕ
 cleared ws = listBelow bookLength (λ k. 0) ++ drop bookLength ws
 
+abbrev pub freshGrounds : List ℕ → List Ground
+freshGrounds ws = (1, ltb (length ws) bookLength) ∷ []
+
 unfoldable pub freshRefusal : List ℕ → ℕ
-freshRefusal ws = firstOf ((1, ltb (length ws) bookLength) ∷ [])
+freshRefusal ws = firstOf (freshGrounds ws)
 
 unfoldable pub freshBook : List ℕ → List ℕ
 freshBook ws = accepted (freshRefusal ws) (set (cleared ws) 0 mark) ws
 
 -- "**Open** (kind)"
-unfoldable pub openRefusal : List ℕ → ℕ → ℕ
-openRefusal ws kind =
-    firstOf
-    ((1, not (sound ws))
+abbrev pub openGrounds : List ℕ → ℕ → List Ground
+openGrounds ws kind =
+    (1, not (sound ws))
     ∷ (3, not (isKind kind))
     ∷ (8, leb mostCategories (categories ws))
-    ∷ [])
+    ∷ []
+
+unfoldable pub openRefusal : List ℕ → ℕ → ℕ
+openRefusal ws kind = firstOf (openGrounds ws kind)
 
 unfoldable pub openReply : List ℕ → ℕ → Reply
 openReply ws kind = replyOf (openRefusal ws kind) (categories ws + 1)
@@ -54,10 +59,9 @@ abbrev pub isClosed : List ℕ → ℕ → Bool
 isClosed ws category = not (eqb (categoryOf ws category .closed) 0)
 
 -- "**post** (category, group, quantity, operation factor, provision factor)"; "quantity × factor is µg"
-unfoldable pub postRefusal : List ℕ → ℕ → ℕ → ℕ → ℕ → ℕ → ℕ
-postRefusal ws category group quantity operationFactor provisionFactor =
-    firstOf
-    ((1, not (sound ws))
+abbrev pub postGrounds : List ℕ → ℕ → ℕ → ℕ → ℕ → ℕ → List Ground
+postGrounds ws category group quantity operationFactor provisionFactor =
+    (1, not (sound ws))
     ∷ (2, unnumbered (categories ws) category)
     ∷ (3, not (isGroup group))
     ∷ (4, isClosed ws category)
@@ -65,7 +69,10 @@ postRefusal ws category group quantity operationFactor provisionFactor =
     ∷ (7, not (isQuantity quantity && isFactor operationFactor && isFactor provisionFactor))
     ∷ (8, leb mostEntries (entries ws))
     ∷ (10, passesAmounts ws (quantity * operationFactor) (quantity * provisionFactor))
-    ∷ [])
+    ∷ []
+
+unfoldable pub postRefusal : List ℕ → ℕ → ℕ → ℕ → ℕ → ℕ → ℕ
+postRefusal ws category group quantity operationFactor provisionFactor = firstOf (postGrounds ws category group quantity operationFactor provisionFactor)
 
 unfoldable pub postReply : List ℕ → ℕ → ℕ → ℕ → ℕ → ℕ → Reply
 postReply ws category group quantity operationFactor provisionFactor =
@@ -89,13 +96,15 @@ postBook ws category group quantity operationFactor provisionFactor =
     ws
 
 -- "**Strike** (entry) sets its struck word; the record still counts towards 64."
-unfoldable pub strikeRefusal : List ℕ → ℕ → ℕ
-strikeRefusal ws entry =
-    firstOf
-    ((1, not (sound ws))
+abbrev pub strikeGrounds : List ℕ → ℕ → List Ground
+strikeGrounds ws entry =
+    (1, not (sound ws))
     ∷ (2, unnumbered (entries ws) entry)
     ∷ (4, isClosed ws (entryAt ws (entry - 1) .category) || not (eqb (entryAt ws (entry - 1) .struck) 0))
-    ∷ [])
+    ∷ []
+
+unfoldable pub strikeRefusal : List ℕ → ℕ → ℕ
+strikeRefusal ws entry = firstOf (strikeGrounds ws entry)
 
 unfoldable pub strikeBook : List ℕ → ℕ → List ℕ
 strikeBook ws entry = accepted (strikeRefusal ws entry) (set ws (36 + 5 * (entry - 1) + 4) 1) ws
@@ -114,10 +123,9 @@ enrolledElement ws category chain code amount distance =
       provision = 0;
     }
 
-unfoldable pub enrolRefusal : List ℕ → ℕ → ℕ → ℕ → ℕ → ℕ → ℕ
-enrolRefusal ws category chain code amount distance =
-    firstOf
-    ((1, not (sound ws))
+abbrev pub enrolGrounds : List ℕ → ℕ → ℕ → ℕ → ℕ → ℕ → List Ground
+enrolGrounds ws category chain code amount distance =
+    (1, not (sound ws))
     ∷ (2, unnumbered (categories ws) category)
     ∷ (3, not (isChain chain && isCode code))
     ∷ (4, isClosed ws category)
@@ -125,7 +133,10 @@ enrolRefusal ws category chain code amount distance =
     ∷ (7, not (isAmount code amount && isDistance (categoryOf ws category .kind) distance))
     ∷ (8, leb mostElements (elements ws))
     ∷ (10, passesActivity ws (enrolledElement ws category chain code amount distance))
-    ∷ [])
+    ∷ []
+
+unfoldable pub enrolRefusal : List ℕ → ℕ → ℕ → ℕ → ℕ → ℕ → ℕ
+enrolRefusal ws category chain code amount distance = firstOf (enrolGrounds ws category chain code amount distance)
 
 unfoldable pub enrolReply : List ℕ → ℕ → ℕ → ℕ → ℕ → ℕ → Reply
 enrolReply ws category chain code amount distance =
@@ -161,10 +172,9 @@ quotedElement chain adjust mass distance operationIntensity provisionIntensity =
       provision = quotedAmount adjust mass distance provisionIntensity;
     }
 
-unfoldable pub quoteRefusal : List ℕ → ℕ → ℕ → ℕ → ℕ → ℕ → ℕ → ℕ
-quoteRefusal ws chain adjust mass distance operationIntensity provisionIntensity =
-    firstOf
-    ((1, not (sound ws))
+abbrev pub quoteGrounds : List ℕ → ℕ → ℕ → ℕ → ℕ → ℕ → ℕ → List Ground
+quoteGrounds ws chain adjust mass distance operationIntensity provisionIntensity =
+    (1, not (sound ws))
     ∷ (3, not (isChain chain && leb adjust 1))
     ∷ (7, not (isAmount 0 mass && isDistance 1 distance && isIntensity operationIntensity && isIntensity provisionIntensity))
     ∷ (8, leb mostElements (elements ws))
@@ -173,7 +183,10 @@ quoteRefusal ws chain adjust mass distance operationIntensity provisionIntensity
       passesAmounts ws (quotedAmount adjust mass distance operationIntensity) (quotedAmount adjust mass distance provisionIntensity)
           || passesActivity ws (quotedElement chain adjust mass distance operationIntensity provisionIntensity),
     )
-    ∷ [])
+    ∷ []
+
+unfoldable pub quoteRefusal : List ℕ → ℕ → ℕ → ℕ → ℕ → ℕ → ℕ → ℕ
+quoteRefusal ws chain adjust mass distance operationIntensity provisionIntensity = firstOf (quoteGrounds ws chain adjust mass distance operationIntensity provisionIntensity)
 
 unfoldable pub quoteReply : List ℕ → ℕ → ℕ → ℕ → ℕ → ℕ → ℕ → Reply
 quoteReply ws chain adjust mass distance operationIntensity provisionIntensity =

@@ -1,31 +1,72 @@
 -- `book::enrolling::refusal_number` meets its contract: each return is the ground of its own test, after those that did
 -- not hold. Assumes nothing.
-use mathlib.Core.Bool.{not, true, false, _&&_}
-use mathlib.Core.Path.{sym, ap, _∙_, refl}
+use mathlib.Core.Bool.{not, false, true, _&&_}
+use mathlib.Core.Path.{_≡_, ap, _∙_, sym, refl}
+use Prim.Native.Nat.{ℕ}
 use native.Mathlib.Omega.{arith}
+use lib.ListN.{drop}
 use borrow.Author.Needs.{needs}
-use borrow.Author.Tests.{le-leb, not-false, lt-leb}
+use borrow.Author.Tests.{lt-leb, le-leb, not-false}
+use Rattle.apportion.specs.Grounds.{firstOf}
 use Rattle.book_words.specs.Book.{categoryOf, mostElements, elements, categories}
 use Rattle.book_words.specs.Measures.{isChain, isCode, unsuited, isAmount, isDistance, between}
 use Rattle.book_words.specs.Totals.{passesActivity}
-use Rattle.book.specs.Calls.{enrolRefusal}
+use Rattle.book.specs.Calls.{enrolRefusal, enrolGrounds}
 use Rattle.book_words.proofs.Booleans.{both}
 use Rattle.book_words.proofs.Facts.{sound-counted}
-use Rattle.book.proofs.Refusing.{passed, stopped, not-is2, was-closed, was-open, of-kind}
+use Rattle.book.proofs.Refusing.{passed, not-is2, was-open, of-kind, stopped, was-closed}
 use Rattle.book.proofs.enrolling.refusal_number.Statement.{statement}
 use Rattle.book.proofs.enrolling.refusal_number.Tie as tie
+
+-- the first so many grounds do not hold
+abbrev Past : ℕ → tie.Start → Type 0
+Past k s = enrolRefusal (s .args .book .now) (s .args .category) (s .args .chain) (s .args .code) (s .args .amount) (s .args .distance) ≡ firstOf (drop k (enrolGrounds (s .args .book .now) (s .args .category) (s .args .chain) (s .args .code) (s .args .amount) (s .args .distance)))
+
+past-1 : (s : tie.Start) → Past 1 s
+unfolding enrolRefusal
+past-1 s = passed 1 (ap not (s .pre))
+
+past-2 : (c : tie.Else1) → Past 2 (c .before .before .before)
+past-2 c = past-1 (c .before .before .before) ∙ passed 2 (c .if1 .left)
+
+past-3 : (c : tie.Else2) → Past 3 (c .before .before .before .before .before .before)
+past-3 c =
+    let s = c .before .before .before .before .before .before in
+    past-2 (c .before .before .before) ∙ passed 3 (not-is2 (c .before .before .is-chain .result) (isChain (s .args .chain)) (c .before .is-code .result) (isCode (s .args .code)) (c .before .before .is-chain .ensures) (c .before .is-code .ensures) ∙ c .if2 .left)
+
+past-4 : (c : tie.Else3) → Past 4 (c .before .before .before .before .before .before .before .before .before)
+past-4 c =
+    let s = c .before .before .before .before .before .before .before .before .before in
+    let read = c .before .before .category-of in
+    past-3 (c .before .before .before) ∙ passed 4 (was-open (s .args .book .now) (s .args .category) (read .result) (read .ensures) (c .before .before .before .before .before .before .if1 .left) (c .if3 .left))
+
+past-5 : (c : tie.Else4) → Past 5 (c .before .before .before .before .before .before .before .before .before .before .before)
+past-5 c =
+    let s = c .before .before .before .before .before .before .before .before .before .before .before in
+    let read = c .before .before .before .before .category-of in
+    past-4 (c .before .before) ∙ passed 6 (of-kind (s .args .book .now) (s .args .category) (read .result) (read .ensures) (c .before .before .before .before .before .before .before .before .if1 .left) (λ k. unsuited k (s .args .code)) (c .before .unsuited .result) false (c .before .unsuited .ensures) (c .if4 .left))
+
+past-6 : (c : tie.Else5) → Past 6 (c .before .before .before .before .before .before .before .before .before .before .before .before .before .before)
+past-6 c =
+    let s = c .before .before .before .before .before .before .before .before .before .before .before .before .before .before in
+    let read = c .before .before .before .before .before .before .before .category-of in
+    past-5 (c .before .before .before) ∙ passed 7 (not-is2 (c .before .before .is-amount .result) (isAmount (s .args .code) (s .args .amount)) (c .before .is-distance .result) (isDistance (categoryOf (s .args .book .now) (s .args .category) .kind) (s .args .distance)) (c .before .before .is-amount .ensures) (sym (of-kind (s .args .book .now) (s .args .category) (read .result) (read .ensures) (c .before .before .before .before .before .before .before .before .before .before .before .if1 .left) (λ k. isDistance k (s .args .distance)) (c .before .is-distance .result) (c .before .is-distance .result) (c .before .is-distance .ensures) refl)) ∙ c .if5 .left)
+
+past-7 : (c : tie.Else6) → Past 7 (c .before .before .before .before .before .before .before .before .before .before .before .before .before .before .before .before)
+past-7 c =
+    let s = c .before .before .before .before .before .before .before .before .before .before .before .before .before .before .before .before in
+    past-6 (c .before .before) ∙ passed 8 (lt-leb mostElements (elements (s .args .book .now)) (c .if6 .left))
+
+past-8 : (c : tie.Else7) → Past 8 (c .before .before .before .before .before .before .before .before .before .before .before .before .before .before .before .before .before .before .before)
+past-8 c =
+    let s = c .before .before .before .before .before .before .before .before .before .before .before .before .before .before .before .before .before .before .before in
+    past-7 (c .before .before .before) ∙ passed 10 (ap (passesActivity (s .args .book .now)) (sym (c .before .before .enrolled .ensures)) ∙ sym (c .before .passes-activity .ensures) ∙ c .if7 .left)
 
 shared-slice-read-if1 : tie.Need-shared-slice-read-if1
 shared-slice-read-if1 c = omega (arith, sound-counted (c .before .before .args .book .now) (c .before .before .pre) .long)
 
 returns : tie.Need-returns
-unfolding enrolRefusal
-returns c =
-    sym
-    (
-    passed 1 (ap not (c .before .before .before .pre))
-    ∙ stopped 2 _ (c .if1 .taken)
-    )
+returns c = sym (past-1 (c .before .before .before) ∙ stopped 2 _ (c .if1 .taken))
 
 is-chain-requires : tie.Need-is-chain-requires
 is-chain-requires c κs = search needs
@@ -34,43 +75,27 @@ is-code-requires : tie.Need-is-code-requires
 is-code-requires c κs = search needs
 
 returns-2 : tie.Need-returns-2
-unfolding enrolRefusal
 returns-2 c =
-    sym
-    (
-    passed 1 (ap not (c .before .before .before .before .before .before .pre))
-    ∙ passed 2 (c .before .before .before .if1 .left)
-    ∙ stopped 3 _ (not-is2 (c .before .before .is-chain .result) (isChain (c .before .before .before .before .before .before .args .chain)) (c .before .is-code .result) (isCode (c .before .before .before .before .before .before .args .code)) (c .before .before .is-chain .ensures) (c .before .is-code .ensures) ∙ c .if2 .taken)
-    )
+    let s = c .before .before .before .before .before .before in
+    sym (past-2 (c .before .before .before) ∙ stopped 3 _ (not-is2 (c .before .before .is-chain .result) (isChain (s .args .chain)) (c .before .is-code .result) (isCode (s .args .code)) (c .before .before .is-chain .ensures) (c .before .is-code .ensures) ∙ c .if2 .taken))
 
 category-of-requires : tie.Need-category-of-requires
 category-of-requires c κs = search needs
 
 returns-3 : tie.Need-returns-3
-unfolding enrolRefusal
 returns-3 c =
-    sym
-    (
-    passed 1 (ap not (c .before .before .before .before .before .before .before .before .before .pre))
-    ∙ passed 2 (c .before .before .before .before .before .before .if1 .left)
-    ∙ passed 3 (not-is2 (c .before .before .before .before .before .is-chain .result) (isChain (c .before .before .before .before .before .before .before .before .before .args .chain)) (c .before .before .before .before .is-code .result) (isCode (c .before .before .before .before .before .before .before .before .before .args .code)) (c .before .before .before .before .before .is-chain .ensures) (c .before .before .before .before .is-code .ensures) ∙ c .before .before .before .if2 .left)
-    ∙ stopped 4 _ (was-closed (c .before .before .before .before .before .before .before .before .before .args .book .now) (c .before .before .before .before .before .before .before .before .before .args .category) (c .before .before .category-of .result) (c .before .before .category-of .ensures) (c .before .before .before .before .before .before .if1 .left) (c .if3 .taken))
-    )
+    let s = c .before .before .before .before .before .before .before .before .before in
+    let read = c .before .before .category-of in
+    sym (past-3 (c .before .before .before) ∙ stopped 4 _ (was-closed (s .args .book .now) (s .args .category) (read .result) (read .ensures) (c .before .before .before .before .before .before .if1 .left) (c .if3 .taken)))
 
 unsuited-requires : tie.Need-unsuited-requires
 unsuited-requires c κs = search needs
 
 returns-4 : tie.Need-returns-4
-unfolding enrolRefusal
 returns-4 c =
-    sym
-    (
-    passed 1 (ap not (c .before .before .before .before .before .before .before .before .before .before .before .pre))
-    ∙ passed 2 (c .before .before .before .before .before .before .before .before .if1 .left)
-    ∙ passed 3 (not-is2 (c .before .before .before .before .before .before .before .is-chain .result) (isChain (c .before .before .before .before .before .before .before .before .before .before .before .args .chain)) (c .before .before .before .before .before .before .is-code .result) (isCode (c .before .before .before .before .before .before .before .before .before .before .before .args .code)) (c .before .before .before .before .before .before .before .is-chain .ensures) (c .before .before .before .before .before .before .is-code .ensures) ∙ c .before .before .before .before .before .if2 .left)
-    ∙ passed 4 (was-open (c .before .before .before .before .before .before .before .before .before .before .before .args .book .now) (c .before .before .before .before .before .before .before .before .before .before .before .args .category) (c .before .before .before .before .category-of .result) (c .before .before .before .before .category-of .ensures) (c .before .before .before .before .before .before .before .before .if1 .left) (c .before .before .if3 .left))
-    ∙ stopped 6 _ (of-kind (c .before .before .before .before .before .before .before .before .before .before .before .args .book .now) (c .before .before .before .before .before .before .before .before .before .before .before .args .category) (c .before .before .before .before .category-of .result) (c .before .before .before .before .category-of .ensures) (c .before .before .before .before .before .before .before .before .if1 .left) (λ k. unsuited k (c .before .before .before .before .before .before .before .before .before .before .before .args .code)) (c .before .unsuited .result) true (c .before .unsuited .ensures) (c .if4 .taken))
-    )
+    let s = c .before .before .before .before .before .before .before .before .before .before .before in
+    let read = c .before .before .before .before .category-of in
+    sym (past-4 (c .before .before) ∙ stopped 6 _ (of-kind (s .args .book .now) (s .args .category) (read .result) (read .ensures) (c .before .before .before .before .before .before .before .before .if1 .left) (λ k. unsuited k (s .args .code)) (c .before .unsuited .result) true (c .before .unsuited .ensures) (c .if4 .taken)))
 
 is-amount-requires : tie.Need-is-amount-requires
 is-amount-requires c κs = search needs
@@ -79,34 +104,18 @@ is-distance-requires : tie.Need-is-distance-requires
 is-distance-requires c κs = search needs
 
 returns-5 : tie.Need-returns-5
-unfolding enrolRefusal
 returns-5 c =
-    sym
-    (
-    passed 1 (ap not (c .before .before .before .before .before .before .before .before .before .before .before .before .before .before .pre))
-    ∙ passed 2 (c .before .before .before .before .before .before .before .before .before .before .before .if1 .left)
-    ∙ passed 3 (not-is2 (c .before .before .before .before .before .before .before .before .before .before .is-chain .result) (isChain (c .before .before .before .before .before .before .before .before .before .before .before .before .before .before .args .chain)) (c .before .before .before .before .before .before .before .before .before .is-code .result) (isCode (c .before .before .before .before .before .before .before .before .before .before .before .before .before .before .args .code)) (c .before .before .before .before .before .before .before .before .before .before .is-chain .ensures) (c .before .before .before .before .before .before .before .before .before .is-code .ensures) ∙ c .before .before .before .before .before .before .before .before .if2 .left)
-    ∙ passed 4 (was-open (c .before .before .before .before .before .before .before .before .before .before .before .before .before .before .args .book .now) (c .before .before .before .before .before .before .before .before .before .before .before .before .before .before .args .category) (c .before .before .before .before .before .before .before .category-of .result) (c .before .before .before .before .before .before .before .category-of .ensures) (c .before .before .before .before .before .before .before .before .before .before .before .if1 .left) (c .before .before .before .before .before .if3 .left))
-    ∙ passed 6 (of-kind (c .before .before .before .before .before .before .before .before .before .before .before .before .before .before .args .book .now) (c .before .before .before .before .before .before .before .before .before .before .before .before .before .before .args .category) (c .before .before .before .before .before .before .before .category-of .result) (c .before .before .before .before .before .before .before .category-of .ensures) (c .before .before .before .before .before .before .before .before .before .before .before .if1 .left) (λ k. unsuited k (c .before .before .before .before .before .before .before .before .before .before .before .before .before .before .args .code)) (c .before .before .before .before .unsuited .result) false (c .before .before .before .before .unsuited .ensures) (c .before .before .before .if4 .left))
-    ∙ stopped 7 _ (not-is2 (c .before .before .is-amount .result) (isAmount (c .before .before .before .before .before .before .before .before .before .before .before .before .before .before .args .code) (c .before .before .before .before .before .before .before .before .before .before .before .before .before .before .args .amount)) (c .before .is-distance .result) (isDistance (categoryOf (c .before .before .before .before .before .before .before .before .before .before .before .before .before .before .args .book .now) (c .before .before .before .before .before .before .before .before .before .before .before .before .before .before .args .category) .kind) (c .before .before .before .before .before .before .before .before .before .before .before .before .before .before .args .distance)) (c .before .before .is-amount .ensures) (sym (of-kind (c .before .before .before .before .before .before .before .before .before .before .before .before .before .before .args .book .now) (c .before .before .before .before .before .before .before .before .before .before .before .before .before .before .args .category) (c .before .before .before .before .before .before .before .category-of .result) (c .before .before .before .before .before .before .before .category-of .ensures) (c .before .before .before .before .before .before .before .before .before .before .before .if1 .left) (λ k. isDistance k (c .before .before .before .before .before .before .before .before .before .before .before .before .before .before .args .distance)) (c .before .is-distance .result) (c .before .is-distance .result) (c .before .is-distance .ensures) refl)) ∙ c .if5 .taken)
-    )
+    let s = c .before .before .before .before .before .before .before .before .before .before .before .before .before .before in
+    let read = c .before .before .before .before .before .before .before .category-of in
+    sym (past-5 (c .before .before .before) ∙ stopped 7 _ (not-is2 (c .before .before .is-amount .result) (isAmount (s .args .code) (s .args .amount)) (c .before .is-distance .result) (isDistance (categoryOf (s .args .book .now) (s .args .category) .kind) (s .args .distance)) (c .before .before .is-amount .ensures) (sym (of-kind (s .args .book .now) (s .args .category) (read .result) (read .ensures) (c .before .before .before .before .before .before .before .before .before .before .before .if1 .left) (λ k. isDistance k (s .args .distance)) (c .before .is-distance .result) (c .before .is-distance .result) (c .before .is-distance .ensures) refl)) ∙ c .if5 .taken))
 
 shared-slice-read-if6 : tie.Need-shared-slice-read-if6
 shared-slice-read-if6 c = omega (arith, sound-counted (c .before .before .before .before .before .before .before .before .before .before .before .before .before .before .before .args .book .now) (c .before .before .before .before .before .before .before .before .before .before .before .before .before .before .before .pre) .long)
 
 returns-6 : tie.Need-returns-6
-unfolding enrolRefusal
 returns-6 c =
-    sym
-    (
-    passed 1 (ap not (c .before .before .before .before .before .before .before .before .before .before .before .before .before .before .before .before .pre))
-    ∙ passed 2 (c .before .before .before .before .before .before .before .before .before .before .before .before .before .if1 .left)
-    ∙ passed 3 (not-is2 (c .before .before .before .before .before .before .before .before .before .before .before .before .is-chain .result) (isChain (c .before .before .before .before .before .before .before .before .before .before .before .before .before .before .before .before .args .chain)) (c .before .before .before .before .before .before .before .before .before .before .before .is-code .result) (isCode (c .before .before .before .before .before .before .before .before .before .before .before .before .before .before .before .before .args .code)) (c .before .before .before .before .before .before .before .before .before .before .before .before .is-chain .ensures) (c .before .before .before .before .before .before .before .before .before .before .before .is-code .ensures) ∙ c .before .before .before .before .before .before .before .before .before .before .if2 .left)
-    ∙ passed 4 (was-open (c .before .before .before .before .before .before .before .before .before .before .before .before .before .before .before .before .args .book .now) (c .before .before .before .before .before .before .before .before .before .before .before .before .before .before .before .before .args .category) (c .before .before .before .before .before .before .before .before .before .category-of .result) (c .before .before .before .before .before .before .before .before .before .category-of .ensures) (c .before .before .before .before .before .before .before .before .before .before .before .before .before .if1 .left) (c .before .before .before .before .before .before .before .if3 .left))
-    ∙ passed 6 (of-kind (c .before .before .before .before .before .before .before .before .before .before .before .before .before .before .before .before .args .book .now) (c .before .before .before .before .before .before .before .before .before .before .before .before .before .before .before .before .args .category) (c .before .before .before .before .before .before .before .before .before .category-of .result) (c .before .before .before .before .before .before .before .before .before .category-of .ensures) (c .before .before .before .before .before .before .before .before .before .before .before .before .before .if1 .left) (λ k. unsuited k (c .before .before .before .before .before .before .before .before .before .before .before .before .before .before .before .before .args .code)) (c .before .before .before .before .before .before .unsuited .result) false (c .before .before .before .before .before .before .unsuited .ensures) (c .before .before .before .before .before .if4 .left))
-    ∙ passed 7 (not-is2 (c .before .before .before .before .is-amount .result) (isAmount (c .before .before .before .before .before .before .before .before .before .before .before .before .before .before .before .before .args .code) (c .before .before .before .before .before .before .before .before .before .before .before .before .before .before .before .before .args .amount)) (c .before .before .before .is-distance .result) (isDistance (categoryOf (c .before .before .before .before .before .before .before .before .before .before .before .before .before .before .before .before .args .book .now) (c .before .before .before .before .before .before .before .before .before .before .before .before .before .before .before .before .args .category) .kind) (c .before .before .before .before .before .before .before .before .before .before .before .before .before .before .before .before .args .distance)) (c .before .before .before .before .is-amount .ensures) (sym (of-kind (c .before .before .before .before .before .before .before .before .before .before .before .before .before .before .before .before .args .book .now) (c .before .before .before .before .before .before .before .before .before .before .before .before .before .before .before .before .args .category) (c .before .before .before .before .before .before .before .before .before .category-of .result) (c .before .before .before .before .before .before .before .before .before .category-of .ensures) (c .before .before .before .before .before .before .before .before .before .before .before .before .before .if1 .left) (λ k. isDistance k (c .before .before .before .before .before .before .before .before .before .before .before .before .before .before .before .before .args .distance)) (c .before .before .before .is-distance .result) (c .before .before .before .is-distance .result) (c .before .before .before .is-distance .ensures) refl)) ∙ c .before .before .if5 .left)
-    ∙ stopped 8 _ (le-leb mostElements (elements (c .before .before .before .before .before .before .before .before .before .before .before .before .before .before .before .before .args .book .now)) (c .if6 .taken))
-    )
+    let s = c .before .before .before .before .before .before .before .before .before .before .before .before .before .before .before .before in
+    sym (past-6 (c .before .before) ∙ stopped 8 _ (le-leb mostElements (elements (s .args .book .now)) (c .if6 .taken)))
 
 enrolled-requires : tie.Need-enrolled-requires
 enrolled-requires c κs =
@@ -129,34 +138,12 @@ passes-activity-requires : tie.Need-passes-activity-requires
 passes-activity-requires c κs = search needs
 
 returns-7 : tie.Need-returns-7
-unfolding enrolRefusal
 returns-7 c =
-    sym
-    (
-    passed 1 (ap not (c .before .before .before .before .before .before .before .before .before .before .before .before .before .before .before .before .before .before .before .pre))
-    ∙ passed 2 (c .before .before .before .before .before .before .before .before .before .before .before .before .before .before .before .before .if1 .left)
-    ∙ passed 3 (not-is2 (c .before .before .before .before .before .before .before .before .before .before .before .before .before .before .before .is-chain .result) (isChain (c .before .before .before .before .before .before .before .before .before .before .before .before .before .before .before .before .before .before .before .args .chain)) (c .before .before .before .before .before .before .before .before .before .before .before .before .before .before .is-code .result) (isCode (c .before .before .before .before .before .before .before .before .before .before .before .before .before .before .before .before .before .before .before .args .code)) (c .before .before .before .before .before .before .before .before .before .before .before .before .before .before .before .is-chain .ensures) (c .before .before .before .before .before .before .before .before .before .before .before .before .before .before .is-code .ensures) ∙ c .before .before .before .before .before .before .before .before .before .before .before .before .before .if2 .left)
-    ∙ passed 4 (was-open (c .before .before .before .before .before .before .before .before .before .before .before .before .before .before .before .before .before .before .before .args .book .now) (c .before .before .before .before .before .before .before .before .before .before .before .before .before .before .before .before .before .before .before .args .category) (c .before .before .before .before .before .before .before .before .before .before .before .before .category-of .result) (c .before .before .before .before .before .before .before .before .before .before .before .before .category-of .ensures) (c .before .before .before .before .before .before .before .before .before .before .before .before .before .before .before .before .if1 .left) (c .before .before .before .before .before .before .before .before .before .before .if3 .left))
-    ∙ passed 6 (of-kind (c .before .before .before .before .before .before .before .before .before .before .before .before .before .before .before .before .before .before .before .args .book .now) (c .before .before .before .before .before .before .before .before .before .before .before .before .before .before .before .before .before .before .before .args .category) (c .before .before .before .before .before .before .before .before .before .before .before .before .category-of .result) (c .before .before .before .before .before .before .before .before .before .before .before .before .category-of .ensures) (c .before .before .before .before .before .before .before .before .before .before .before .before .before .before .before .before .if1 .left) (λ k. unsuited k (c .before .before .before .before .before .before .before .before .before .before .before .before .before .before .before .before .before .before .before .args .code)) (c .before .before .before .before .before .before .before .before .before .unsuited .result) false (c .before .before .before .before .before .before .before .before .before .unsuited .ensures) (c .before .before .before .before .before .before .before .before .if4 .left))
-    ∙ passed 7 (not-is2 (c .before .before .before .before .before .before .before .is-amount .result) (isAmount (c .before .before .before .before .before .before .before .before .before .before .before .before .before .before .before .before .before .before .before .args .code) (c .before .before .before .before .before .before .before .before .before .before .before .before .before .before .before .before .before .before .before .args .amount)) (c .before .before .before .before .before .before .is-distance .result) (isDistance (categoryOf (c .before .before .before .before .before .before .before .before .before .before .before .before .before .before .before .before .before .before .before .args .book .now) (c .before .before .before .before .before .before .before .before .before .before .before .before .before .before .before .before .before .before .before .args .category) .kind) (c .before .before .before .before .before .before .before .before .before .before .before .before .before .before .before .before .before .before .before .args .distance)) (c .before .before .before .before .before .before .before .is-amount .ensures) (sym (of-kind (c .before .before .before .before .before .before .before .before .before .before .before .before .before .before .before .before .before .before .before .args .book .now) (c .before .before .before .before .before .before .before .before .before .before .before .before .before .before .before .before .before .before .before .args .category) (c .before .before .before .before .before .before .before .before .before .before .before .before .category-of .result) (c .before .before .before .before .before .before .before .before .before .before .before .before .category-of .ensures) (c .before .before .before .before .before .before .before .before .before .before .before .before .before .before .before .before .if1 .left) (λ k. isDistance k (c .before .before .before .before .before .before .before .before .before .before .before .before .before .before .before .before .before .before .before .args .distance)) (c .before .before .before .before .before .before .is-distance .result) (c .before .before .before .before .before .before .is-distance .result) (c .before .before .before .before .before .before .is-distance .ensures) refl)) ∙ c .before .before .before .before .before .if5 .left)
-    ∙ passed 8 (lt-leb mostElements (elements (c .before .before .before .before .before .before .before .before .before .before .before .before .before .before .before .before .before .before .before .args .book .now)) (c .before .before .before .if6 .left))
-    ∙ stopped 10 _ (ap (passesActivity (c .before .before .before .before .before .before .before .before .before .before .before .before .before .before .before .before .before .before .before .args .book .now)) (sym (c .before .before .enrolled .ensures)) ∙ sym (c .before .passes-activity .ensures) ∙ c .if7 .taken)
-    )
+    let s = c .before .before .before .before .before .before .before .before .before .before .before .before .before .before .before .before .before .before .before in
+    sym (past-7 (c .before .before .before) ∙ stopped 10 _ (ap (passesActivity (s .args .book .now)) (sym (c .before .before .enrolled .ensures)) ∙ sym (c .before .passes-activity .ensures) ∙ c .if7 .taken))
 
 returns-8 : tie.Need-returns-8
-unfolding enrolRefusal
-returns-8 c =
-    sym
-    (
-    passed 1 (ap not (c .before .before .before .before .before .before .before .before .before .before .before .before .before .before .before .before .before .before .before .pre))
-    ∙ passed 2 (c .before .before .before .before .before .before .before .before .before .before .before .before .before .before .before .before .if1 .left)
-    ∙ passed 3 (not-is2 (c .before .before .before .before .before .before .before .before .before .before .before .before .before .before .before .is-chain .result) (isChain (c .before .before .before .before .before .before .before .before .before .before .before .before .before .before .before .before .before .before .before .args .chain)) (c .before .before .before .before .before .before .before .before .before .before .before .before .before .before .is-code .result) (isCode (c .before .before .before .before .before .before .before .before .before .before .before .before .before .before .before .before .before .before .before .args .code)) (c .before .before .before .before .before .before .before .before .before .before .before .before .before .before .before .is-chain .ensures) (c .before .before .before .before .before .before .before .before .before .before .before .before .before .before .is-code .ensures) ∙ c .before .before .before .before .before .before .before .before .before .before .before .before .before .if2 .left)
-    ∙ passed 4 (was-open (c .before .before .before .before .before .before .before .before .before .before .before .before .before .before .before .before .before .before .before .args .book .now) (c .before .before .before .before .before .before .before .before .before .before .before .before .before .before .before .before .before .before .before .args .category) (c .before .before .before .before .before .before .before .before .before .before .before .before .category-of .result) (c .before .before .before .before .before .before .before .before .before .before .before .before .category-of .ensures) (c .before .before .before .before .before .before .before .before .before .before .before .before .before .before .before .before .if1 .left) (c .before .before .before .before .before .before .before .before .before .before .if3 .left))
-    ∙ passed 6 (of-kind (c .before .before .before .before .before .before .before .before .before .before .before .before .before .before .before .before .before .before .before .args .book .now) (c .before .before .before .before .before .before .before .before .before .before .before .before .before .before .before .before .before .before .before .args .category) (c .before .before .before .before .before .before .before .before .before .before .before .before .category-of .result) (c .before .before .before .before .before .before .before .before .before .before .before .before .category-of .ensures) (c .before .before .before .before .before .before .before .before .before .before .before .before .before .before .before .before .if1 .left) (λ k. unsuited k (c .before .before .before .before .before .before .before .before .before .before .before .before .before .before .before .before .before .before .before .args .code)) (c .before .before .before .before .before .before .before .before .before .unsuited .result) false (c .before .before .before .before .before .before .before .before .before .unsuited .ensures) (c .before .before .before .before .before .before .before .before .if4 .left))
-    ∙ passed 7 (not-is2 (c .before .before .before .before .before .before .before .is-amount .result) (isAmount (c .before .before .before .before .before .before .before .before .before .before .before .before .before .before .before .before .before .before .before .args .code) (c .before .before .before .before .before .before .before .before .before .before .before .before .before .before .before .before .before .before .before .args .amount)) (c .before .before .before .before .before .before .is-distance .result) (isDistance (categoryOf (c .before .before .before .before .before .before .before .before .before .before .before .before .before .before .before .before .before .before .before .args .book .now) (c .before .before .before .before .before .before .before .before .before .before .before .before .before .before .before .before .before .before .before .args .category) .kind) (c .before .before .before .before .before .before .before .before .before .before .before .before .before .before .before .before .before .before .before .args .distance)) (c .before .before .before .before .before .before .before .is-amount .ensures) (sym (of-kind (c .before .before .before .before .before .before .before .before .before .before .before .before .before .before .before .before .before .before .before .args .book .now) (c .before .before .before .before .before .before .before .before .before .before .before .before .before .before .before .before .before .before .before .args .category) (c .before .before .before .before .before .before .before .before .before .before .before .before .category-of .result) (c .before .before .before .before .before .before .before .before .before .before .before .before .category-of .ensures) (c .before .before .before .before .before .before .before .before .before .before .before .before .before .before .before .before .if1 .left) (λ k. isDistance k (c .before .before .before .before .before .before .before .before .before .before .before .before .before .before .before .before .before .before .before .args .distance)) (c .before .before .before .before .before .before .is-distance .result) (c .before .before .before .before .before .before .is-distance .result) (c .before .before .before .before .before .before .is-distance .ensures) refl)) ∙ c .before .before .before .before .before .if5 .left)
-    ∙ passed 8 (lt-leb mostElements (elements (c .before .before .before .before .before .before .before .before .before .before .before .before .before .before .before .before .before .before .before .args .book .now)) (c .before .before .before .if6 .left))
-    ∙ passed 10 (ap (passesActivity (c .before .before .before .before .before .before .before .before .before .before .before .before .before .before .before .before .before .before .before .args .book .now)) (sym (c .before .before .enrolled .ensures)) ∙ sym (c .before .passes-activity .ensures) ∙ c .if7 .left)
-    )
+returns-8 c = sym (past-8 c)
 
 pub refusal-number-spec : {M : Type 1} → statement M
 refusal-number-spec =

@@ -1,100 +1,101 @@
 -- `book::posting::refusal_number` meets its contract: each return is the ground of its own test, after those that did not
 -- hold. Assumes nothing.
-use mathlib.Core.Bool.{not, true, false}
-use mathlib.Core.Path.{sym, ap, _∙_}
-use Prim.Native.Nat.{_*_, ℕ}
+use mathlib.Core.Bool.{not, false, true}
+use mathlib.Core.Path.{_≡_, ap, _∙_, sym}
+use Prim.Native.Nat.{ℕ, _*_}
 use native.Mathlib.Omega.{arith}
+use lib.ListN.{drop}
 use borrow.Author.Needs.{needs}
-use borrow.Author.Tests.{lt-leb, le-leb}
+use borrow.Author.Tests.{le-leb, lt-leb}
+use Rattle.apportion.specs.Grounds.{firstOf}
 use Rattle.book_words.specs.Book.{mostEntries, entries}
 use Rattle.book_words.specs.Measures.{unsuitedGroup}
-use Rattle.book_words.specs.Totals.{capped, passesAmounts}
-use Rattle.book.specs.Calls.{postRefusal}
+use Rattle.book.specs.Calls.{postRefusal, postGrounds}
 use Rattle.book_words.proofs.Facts.{sound-counted}
-use Rattle.book.proofs.Refusing.{passed, stopped, was-closed, was-open, of-kind, passes-capped}
+use Rattle.book.proofs.Refusing.{passed, was-open, of-kind, post-passes, stopped, was-closed}
 use Rattle.book.proofs.posting.refusal_number.Statement.{statement}
 use Rattle.book.proofs.posting.refusal_number.Tie as tie
+
+-- the first so many grounds do not hold
+abbrev Past : ℕ → tie.Start → Type 0
+Past k s = postRefusal (s .args .book .now) (s .args .category) (s .args .group) (s .args .quantity) (s .args .operation-factor) (s .args .provision-factor) ≡ firstOf (drop k (postGrounds (s .args .book .now) (s .args .category) (s .args .group) (s .args .quantity) (s .args .operation-factor) (s .args .provision-factor)))
+
+past-1 : (s : tie.Start) → Past 1 s
+unfolding postRefusal
+past-1 s = passed 1 (ap not (s .pre))
+
+past-2 : (c : tie.Else1) → Past 2 (c .before .before .before)
+past-2 c = past-1 (c .before .before .before) ∙ passed 2 (c .if1 .left)
+
+past-3 : (c : tie.Else2) → Past 3 (c .before .before .before .before)
+past-3 c =
+    let s = c .before .before .before .before in
+    past-2 (c .before) ∙ passed 3 (ap not (le-leb (s .args .group) 2 (c .if2 .left)))
+
+past-4 : (c : tie.Else3) → Past 4 (c .before .before .before .before .before .before .before)
+past-4 c =
+    let s = c .before .before .before .before .before .before .before in
+    let read = c .before .before .category-of in
+    past-3 (c .before .before .before) ∙ passed 4 (was-open (s .args .book .now) (s .args .category) (read .result) (read .ensures) (c .before .before .before .before .if1 .left) (c .if3 .left))
+
+past-5 : (c : tie.Else4) → Past 5 (c .before .before .before .before .before .before .before .before .before)
+past-5 c =
+    let s = c .before .before .before .before .before .before .before .before .before in
+    let read = c .before .before .before .before .category-of in
+    past-4 (c .before .before) ∙ passed 6 (of-kind (s .args .book .now) (s .args .category) (read .result) (read .ensures) (c .before .before .before .before .before .before .if1 .left) (λ k. unsuitedGroup k (s .args .group)) (c .before .unsuited-group .result) false (c .before .unsuited-group .ensures) (c .if4 .left))
+
+past-6 : (c : tie.Else5) → Past 6 (c .before .before .before .before .before .before .before .before .before .before)
+past-6 c = past-5 (c .before) ∙ passed 7 (c .if5 .left)
+
+past-7 : (c : tie.Else6) → Past 7 (c .before .before .before .before .before .before .before .before .before .before .before .before)
+past-7 c =
+    let s = c .before .before .before .before .before .before .before .before .before .before .before .before in
+    past-6 (c .before .before) ∙ passed 8 (lt-leb mostEntries (entries (s .args .book .now)) (c .if6 .left))
+
+past-8 : (c : tie.Else7) → Past 8 (c .before .before .before .before .before .before .before .before .before .before .before .before .before .before .before .before)
+past-8 c =
+    let s = c .before .before .before .before .before .before .before .before .before .before .before .before .before .before .before .before in
+    past-7 (c .before .before .before .before) ∙ passed 10 (post-passes (s .args .book .now) (s .args .quantity * s .args .operation-factor) (s .args .quantity * s .args .provision-factor) (c .before .before .before .multiply .result) (c .before .before .multiply2 .result) (c .before .passes-amounts .result) (c .before .before .before .multiply .ensures) (c .before .before .multiply2 .ensures) (c .before .passes-amounts .ensures) ∙ c .if7 .left)
 
 shared-slice-read-if1 : tie.Need-shared-slice-read-if1
 shared-slice-read-if1 c = omega (arith, sound-counted (c .before .before .args .book .now) (c .before .before .pre) .long)
 
 returns : tie.Need-returns
-unfolding postRefusal
-returns c =
-    sym
-    (
-    passed 1 (ap not (c .before .before .before .pre))
-    ∙ stopped 2 _ (c .if1 .taken)
-    )
+returns c = sym (past-1 (c .before .before .before) ∙ stopped 2 _ (c .if1 .taken))
 
 returns-2 : tie.Need-returns-2
-unfolding postRefusal
 returns-2 c =
-    sym
-    (
-    passed 1 (ap not (c .before .before .before .before .pre))
-    ∙ passed 2 (c .before .if1 .left)
-    ∙ stopped 3 _ (ap not (lt-leb (c .before .before .before .before .args .group) 2 (c .if2 .taken)))
-    )
+    let s = c .before .before .before .before in
+    sym (past-2 (c .before) ∙ stopped 3 _ (ap not (lt-leb (s .args .group) 2 (c .if2 .taken))))
 
 category-of-requires : tie.Need-category-of-requires
 category-of-requires c κs = search needs
 
 returns-3 : tie.Need-returns-3
-unfolding postRefusal
 returns-3 c =
-    sym
-    (
-    passed 1 (ap not (c .before .before .before .before .before .before .before .pre))
-    ∙ passed 2 (c .before .before .before .before .if1 .left)
-    ∙ passed 3 (ap not (le-leb (c .before .before .before .before .before .before .before .args .group) 2 (c .before .before .before .if2 .left)))
-    ∙ stopped 4 _ (was-closed (c .before .before .before .before .before .before .before .args .book .now) (c .before .before .before .before .before .before .before .args .category) (c .before .before .category-of .result) (c .before .before .category-of .ensures) (c .before .before .before .before .if1 .left) (c .if3 .taken))
-    )
+    let s = c .before .before .before .before .before .before .before in
+    let read = c .before .before .category-of in
+    sym (past-3 (c .before .before .before) ∙ stopped 4 _ (was-closed (s .args .book .now) (s .args .category) (read .result) (read .ensures) (c .before .before .before .before .if1 .left) (c .if3 .taken)))
 
 unsuited-group-requires : tie.Need-unsuited-group-requires
 unsuited-group-requires c κs = search needs
 
 returns-4 : tie.Need-returns-4
-unfolding postRefusal
 returns-4 c =
-    sym
-    (
-    passed 1 (ap not (c .before .before .before .before .before .before .before .before .before .pre))
-    ∙ passed 2 (c .before .before .before .before .before .before .if1 .left)
-    ∙ passed 3 (ap not (le-leb (c .before .before .before .before .before .before .before .before .before .args .group) 2 (c .before .before .before .before .before .if2 .left)))
-    ∙ passed 4 (was-open (c .before .before .before .before .before .before .before .before .before .args .book .now) (c .before .before .before .before .before .before .before .before .before .args .category) (c .before .before .before .before .category-of .result) (c .before .before .before .before .category-of .ensures) (c .before .before .before .before .before .before .if1 .left) (c .before .before .if3 .left))
-    ∙ stopped 6 _ (of-kind (c .before .before .before .before .before .before .before .before .before .args .book .now) (c .before .before .before .before .before .before .before .before .before .args .category) (c .before .before .before .before .category-of .result) (c .before .before .before .before .category-of .ensures) (c .before .before .before .before .before .before .if1 .left) (λ k. unsuitedGroup k (c .before .before .before .before .before .before .before .before .before .args .group)) (c .before .unsuited-group .result) true (c .before .unsuited-group .ensures) (c .if4 .taken))
-    )
+    let s = c .before .before .before .before .before .before .before .before .before in
+    let read = c .before .before .before .before .category-of in
+    sym (past-4 (c .before .before) ∙ stopped 6 _ (of-kind (s .args .book .now) (s .args .category) (read .result) (read .ensures) (c .before .before .before .before .before .before .if1 .left) (λ k. unsuitedGroup k (s .args .group)) (c .before .unsuited-group .result) true (c .before .unsuited-group .ensures) (c .if4 .taken)))
 
 returns-5 : tie.Need-returns-5
-unfolding postRefusal
-returns-5 c =
-    sym
-    (
-    passed 1 (ap not (c .before .before .before .before .before .before .before .before .before .before .pre))
-    ∙ passed 2 (c .before .before .before .before .before .before .before .if1 .left)
-    ∙ passed 3 (ap not (le-leb (c .before .before .before .before .before .before .before .before .before .before .args .group) 2 (c .before .before .before .before .before .before .if2 .left)))
-    ∙ passed 4 (was-open (c .before .before .before .before .before .before .before .before .before .before .args .book .now) (c .before .before .before .before .before .before .before .before .before .before .args .category) (c .before .before .before .before .before .category-of .result) (c .before .before .before .before .before .category-of .ensures) (c .before .before .before .before .before .before .before .if1 .left) (c .before .before .before .if3 .left))
-    ∙ passed 6 (of-kind (c .before .before .before .before .before .before .before .before .before .before .args .book .now) (c .before .before .before .before .before .before .before .before .before .before .args .category) (c .before .before .before .before .before .category-of .result) (c .before .before .before .before .before .category-of .ensures) (c .before .before .before .before .before .before .before .if1 .left) (λ k. unsuitedGroup k (c .before .before .before .before .before .before .before .before .before .before .args .group)) (c .before .before .unsuited-group .result) false (c .before .before .unsuited-group .ensures) (c .before .if4 .left))
-    ∙ stopped 7 _ (c .if5 .taken)
-    )
+returns-5 c = sym (past-5 (c .before) ∙ stopped 7 _ (c .if5 .taken))
 
 shared-slice-read-if6 : tie.Need-shared-slice-read-if6
 shared-slice-read-if6 c = omega (arith, sound-counted (c .before .before .before .before .before .before .before .before .before .before .before .args .book .now) (c .before .before .before .before .before .before .before .before .before .before .before .pre) .long)
 
 returns-6 : tie.Need-returns-6
-unfolding postRefusal
 returns-6 c =
-    sym
-    (
-    passed 1 (ap not (c .before .before .before .before .before .before .before .before .before .before .before .before .pre))
-    ∙ passed 2 (c .before .before .before .before .before .before .before .before .before .if1 .left)
-    ∙ passed 3 (ap not (le-leb (c .before .before .before .before .before .before .before .before .before .before .before .before .args .group) 2 (c .before .before .before .before .before .before .before .before .if2 .left)))
-    ∙ passed 4 (was-open (c .before .before .before .before .before .before .before .before .before .before .before .before .args .book .now) (c .before .before .before .before .before .before .before .before .before .before .before .before .args .category) (c .before .before .before .before .before .before .before .category-of .result) (c .before .before .before .before .before .before .before .category-of .ensures) (c .before .before .before .before .before .before .before .before .before .if1 .left) (c .before .before .before .before .before .if3 .left))
-    ∙ passed 6 (of-kind (c .before .before .before .before .before .before .before .before .before .before .before .before .args .book .now) (c .before .before .before .before .before .before .before .before .before .before .before .before .args .category) (c .before .before .before .before .before .before .before .category-of .result) (c .before .before .before .before .before .before .before .category-of .ensures) (c .before .before .before .before .before .before .before .before .before .if1 .left) (λ k. unsuitedGroup k (c .before .before .before .before .before .before .before .before .before .before .before .before .args .group)) (c .before .before .before .before .unsuited-group .result) false (c .before .before .before .before .unsuited-group .ensures) (c .before .before .before .if4 .left))
-    ∙ passed 7 (c .before .before .if5 .left)
-    ∙ stopped 8 _ (le-leb mostEntries (entries (c .before .before .before .before .before .before .before .before .before .before .before .before .args .book .now)) (c .if6 .taken))
-    )
+    let s = c .before .before .before .before .before .before .before .before .before .before .before .before in
+    sym (past-6 (c .before .before) ∙ stopped 8 _ (le-leb mostEntries (entries (s .args .book .now)) (c .if6 .taken)))
 
 multiply-requires : tie.Need-multiply-requires
 multiply-requires c κs = search needs
@@ -106,34 +107,12 @@ passes-amounts-requires : tie.Need-passes-amounts-requires
 passes-amounts-requires c κs = search needs
 
 returns-7 : tie.Need-returns-7
-unfolding postRefusal
 returns-7 c =
-    sym
-    (
-    passed 1 (ap not (c .before .before .before .before .before .before .before .before .before .before .before .before .before .before .before .before .pre))
-    ∙ passed 2 (c .before .before .before .before .before .before .before .before .before .before .before .before .before .if1 .left)
-    ∙ passed 3 (ap not (le-leb (c .before .before .before .before .before .before .before .before .before .before .before .before .before .before .before .before .args .group) 2 (c .before .before .before .before .before .before .before .before .before .before .before .before .if2 .left)))
-    ∙ passed 4 (was-open (c .before .before .before .before .before .before .before .before .before .before .before .before .before .before .before .before .args .book .now) (c .before .before .before .before .before .before .before .before .before .before .before .before .before .before .before .before .args .category) (c .before .before .before .before .before .before .before .before .before .before .before .category-of .result) (c .before .before .before .before .before .before .before .before .before .before .before .category-of .ensures) (c .before .before .before .before .before .before .before .before .before .before .before .before .before .if1 .left) (c .before .before .before .before .before .before .before .before .before .if3 .left))
-    ∙ passed 6 (of-kind (c .before .before .before .before .before .before .before .before .before .before .before .before .before .before .before .before .args .book .now) (c .before .before .before .before .before .before .before .before .before .before .before .before .before .before .before .before .args .category) (c .before .before .before .before .before .before .before .before .before .before .before .category-of .result) (c .before .before .before .before .before .before .before .before .before .before .before .category-of .ensures) (c .before .before .before .before .before .before .before .before .before .before .before .before .before .if1 .left) (λ k. unsuitedGroup k (c .before .before .before .before .before .before .before .before .before .before .before .before .before .before .before .before .args .group)) (c .before .before .before .before .before .before .before .before .unsuited-group .result) false (c .before .before .before .before .before .before .before .before .unsuited-group .ensures) (c .before .before .before .before .before .before .before .if4 .left))
-    ∙ passed 7 (c .before .before .before .before .before .before .if5 .left)
-    ∙ passed 8 (lt-leb mostEntries (entries (c .before .before .before .before .before .before .before .before .before .before .before .before .before .before .before .before .args .book .now)) (c .before .before .before .before .if6 .left))
-    ∙ stopped 10 _ (sym (passes-capped (c .before .before .before .before .before .before .before .before .before .before .before .before .before .before .before .before .args .book .now) (c .before .before .before .before .before .before .before .before .before .before .before .before .before .before .before .before .args .quantity * c .before .before .before .before .before .before .before .before .before .before .before .before .before .before .before .before .args .operation-factor) (c .before .before .before .before .before .before .before .before .before .before .before .before .before .before .before .before .args .quantity * c .before .before .before .before .before .before .before .before .before .before .before .before .before .before .before .before .args .provision-factor)) ∙ sym (c .before .passes-amounts .ensures ∙ ap (λ (n : ℕ). passesAmounts (c .before .before .before .before .before .before .before .before .before .before .before .before .before .before .before .before .args .book .now) n (c .before .before .multiply2 .result)) (c .before .before .before .multiply .ensures) ∙ ap (λ (n : ℕ). passesAmounts (c .before .before .before .before .before .before .before .before .before .before .before .before .before .before .before .before .args .book .now) (capped (c .before .before .before .before .before .before .before .before .before .before .before .before .before .before .before .before .args .quantity * c .before .before .before .before .before .before .before .before .before .before .before .before .before .before .before .before .args .operation-factor)) n) (c .before .before .multiply2 .ensures)) ∙ c .if7 .taken)
-    )
+    let s = c .before .before .before .before .before .before .before .before .before .before .before .before .before .before .before .before in
+    sym (past-7 (c .before .before .before .before) ∙ stopped 10 _ (post-passes (s .args .book .now) (s .args .quantity * s .args .operation-factor) (s .args .quantity * s .args .provision-factor) (c .before .before .before .multiply .result) (c .before .before .multiply2 .result) (c .before .passes-amounts .result) (c .before .before .before .multiply .ensures) (c .before .before .multiply2 .ensures) (c .before .passes-amounts .ensures) ∙ c .if7 .taken))
 
 returns-8 : tie.Need-returns-8
-unfolding postRefusal
-returns-8 c =
-    sym
-    (
-    passed 1 (ap not (c .before .before .before .before .before .before .before .before .before .before .before .before .before .before .before .before .pre))
-    ∙ passed 2 (c .before .before .before .before .before .before .before .before .before .before .before .before .before .if1 .left)
-    ∙ passed 3 (ap not (le-leb (c .before .before .before .before .before .before .before .before .before .before .before .before .before .before .before .before .args .group) 2 (c .before .before .before .before .before .before .before .before .before .before .before .before .if2 .left)))
-    ∙ passed 4 (was-open (c .before .before .before .before .before .before .before .before .before .before .before .before .before .before .before .before .args .book .now) (c .before .before .before .before .before .before .before .before .before .before .before .before .before .before .before .before .args .category) (c .before .before .before .before .before .before .before .before .before .before .before .category-of .result) (c .before .before .before .before .before .before .before .before .before .before .before .category-of .ensures) (c .before .before .before .before .before .before .before .before .before .before .before .before .before .if1 .left) (c .before .before .before .before .before .before .before .before .before .if3 .left))
-    ∙ passed 6 (of-kind (c .before .before .before .before .before .before .before .before .before .before .before .before .before .before .before .before .args .book .now) (c .before .before .before .before .before .before .before .before .before .before .before .before .before .before .before .before .args .category) (c .before .before .before .before .before .before .before .before .before .before .before .category-of .result) (c .before .before .before .before .before .before .before .before .before .before .before .category-of .ensures) (c .before .before .before .before .before .before .before .before .before .before .before .before .before .if1 .left) (λ k. unsuitedGroup k (c .before .before .before .before .before .before .before .before .before .before .before .before .before .before .before .before .args .group)) (c .before .before .before .before .before .before .before .before .unsuited-group .result) false (c .before .before .before .before .before .before .before .before .unsuited-group .ensures) (c .before .before .before .before .before .before .before .if4 .left))
-    ∙ passed 7 (c .before .before .before .before .before .before .if5 .left)
-    ∙ passed 8 (lt-leb mostEntries (entries (c .before .before .before .before .before .before .before .before .before .before .before .before .before .before .before .before .args .book .now)) (c .before .before .before .before .if6 .left))
-    ∙ passed 10 (sym (passes-capped (c .before .before .before .before .before .before .before .before .before .before .before .before .before .before .before .before .args .book .now) (c .before .before .before .before .before .before .before .before .before .before .before .before .before .before .before .before .args .quantity * c .before .before .before .before .before .before .before .before .before .before .before .before .before .before .before .before .args .operation-factor) (c .before .before .before .before .before .before .before .before .before .before .before .before .before .before .before .before .args .quantity * c .before .before .before .before .before .before .before .before .before .before .before .before .before .before .before .before .args .provision-factor)) ∙ sym (c .before .passes-amounts .ensures ∙ ap (λ (n : ℕ). passesAmounts (c .before .before .before .before .before .before .before .before .before .before .before .before .before .before .before .before .args .book .now) n (c .before .before .multiply2 .result)) (c .before .before .before .multiply .ensures) ∙ ap (λ (n : ℕ). passesAmounts (c .before .before .before .before .before .before .before .before .before .before .before .before .before .before .before .before .args .book .now) (capped (c .before .before .before .before .before .before .before .before .before .before .before .before .before .before .before .before .args .quantity * c .before .before .before .before .before .before .before .before .before .before .before .before .before .before .before .before .args .operation-factor)) n) (c .before .before .multiply2 .ensures)) ∙ c .if7 .left)
-    )
+returns-8 c = sym (past-8 c)
 
 pub refusal-number-spec : {M : Type 1} → statement M
 refusal-number-spec =

@@ -1,32 +1,59 @@
 -- `book::quoting::refusal_number` meets its contract: each return is the ground of its own test, after those that did not
 -- hold. Assumes nothing.
 use mathlib.Core.Bool.{not, Bool, _&&_}
-use mathlib.Core.Path.{sym, ap, _∙_}
+use mathlib.Core.Path.{_≡_, ap, _∙_, sym}
+use Prim.Native.Nat.{ℕ}
 use native.Mathlib.Omega.{arith}
 use lib.Dec.{leb}
+use lib.ListN.{drop}
 use borrow.Author.Needs.{needs}
-use borrow.Author.Tests.{le-leb, not-false, lt-leb}
+use borrow.Author.Tests.{lt-leb, le-leb, not-false}
+use Rattle.apportion.specs.Grounds.{firstOf}
 use Rattle.book_words.specs.Book.{mostElements, elements}
-use Rattle.book_words.specs.Measures.{isDistance, isIntensity}
-use Rattle.book.specs.Calls.{quoteRefusal}
+use Rattle.book_words.specs.Measures.{isAmount, isDistance, isIntensity}
+use Rattle.book.specs.Calls.{quoteRefusal, quoteGrounds}
 use Rattle.book_words.proofs.Booleans.{both}
 use Rattle.book_words.proofs.Facts.{sound-counted}
 use Rattle.book.proofs.Quotes.{quotable}
-use Rattle.book.proofs.Refusing.{passed, stopped, quote-passes}
+use Rattle.book.proofs.Refusing.{passed, not-is4, quote-passes, stopped}
 use Rattle.book.proofs.quoting.refusal_number.Statement.{statement}
 use Rattle.book.proofs.quoting.refusal_number.Tie as tie
+
+-- the first so many grounds do not hold
+abbrev Past : ℕ → tie.Start → Type 0
+Past k s = quoteRefusal (s .args .book .now) (s .args .chain) (s .args .adjust) (s .args .mass) (s .args .distance) (s .args .operation-intensity) (s .args .provision-intensity) ≡ firstOf (drop k (quoteGrounds (s .args .book .now) (s .args .chain) (s .args .adjust) (s .args .mass) (s .args .distance) (s .args .operation-intensity) (s .args .provision-intensity)))
+
+past-1 : (s : tie.Start) → Past 1 s
+unfolding quoteRefusal
+past-1 s = passed 1 (ap not (s .pre))
+
+past-2 : (c : tie.Else1) → Past 2 (c .before .before .before)
+past-2 c =
+    let s = c .before .before .before in
+    past-1 (c .before .before .before) ∙ passed 3 (ap (λ (b : Bool). not (b && leb (s .args .adjust) 1)) (sym (c .before .is-chain .ensures)) ∙ c .if1 .left)
+
+past-3 : (c : tie.Else2) → Past 3 (c .before .before .before .before .before .before)
+past-3 c =
+    let s = c .before .before .before .before .before .before in
+    past-2 (c .before .before .before) ∙ passed 7 (not-is4 (c .before .before .is-amount .result) (isAmount 0 (s .args .mass)) (c .before .is-distance .result) (isDistance 1 (s .args .distance)) (isIntensity (s .args .operation-intensity)) (isIntensity (s .args .provision-intensity)) (c .before .before .is-amount .ensures) (c .before .is-distance .ensures) ∙ c .if2 .left)
+
+past-4 : (c : tie.Else3) → Past 4 (c .before .before .before .before .before .before .before .before)
+past-4 c =
+    let s = c .before .before .before .before .before .before .before .before in
+    past-3 (c .before .before) ∙ passed 8 (lt-leb mostElements (elements (s .args .book .now)) (c .if3 .left))
+
+past-5 : (c : tie.Else4) → Past 5 (c .before .before .before .before .before .before .before .before .before .before .before .before)
+past-5 c =
+    let s = c .before .before .before .before .before .before .before .before .before .before .before .before in
+    past-4 (c .before .before .before .before) ∙ passed 10 (quote-passes (s .args .book .now) (s .args .chain) (s .args .adjust) (s .args .mass) (s .args .distance) (s .args .operation-intensity) (s .args .provision-intensity) (c .before .before .before .quoted .result) (c .before .before .passes-amounts .result) (c .before .passes-activity .result) (c .before .before .before .quoted .ensures) (c .before .before .passes-amounts .ensures) (c .before .passes-activity .ensures) ∙ c .if4 .left)
 
 is-chain-requires : tie.Need-is-chain-requires
 is-chain-requires c κs = search needs
 
 returns : tie.Need-returns
-unfolding quoteRefusal
 returns c =
-    sym
-    (
-    passed 1 (ap not (c .before .before .before .pre))
-    ∙ stopped 3 _ (ap (λ (b : Bool). not (b && leb (c .before .before .before .args .adjust) 1)) (sym (c .before .is-chain .ensures)) ∙ c .if1 .taken)
-    )
+    let s = c .before .before .before in
+    sym (past-1 (c .before .before .before) ∙ stopped 3 _ (ap (λ (b : Bool). not (b && leb (s .args .adjust) 1)) (sym (c .before .is-chain .ensures)) ∙ c .if1 .taken))
 
 is-amount-requires : tie.Need-is-amount-requires
 is-amount-requires c κs = search needs
@@ -35,28 +62,17 @@ is-distance-requires : tie.Need-is-distance-requires
 is-distance-requires c κs = search needs
 
 returns-2 : tie.Need-returns-2
-unfolding quoteRefusal
 returns-2 c =
-    sym
-    (
-    passed 1 (ap not (c .before .before .before .before .before .before .pre))
-    ∙ passed 3 (ap (λ (b : Bool). not (b && leb (c .before .before .before .before .before .before .args .adjust) 1)) (sym (c .before .before .before .before .is-chain .ensures)) ∙ c .before .before .before .if1 .left)
-    ∙ stopped 7 _ (ap (λ (b : Bool). not (b && isDistance 1 (c .before .before .before .before .before .before .args .distance) && isIntensity (c .before .before .before .before .before .before .args .operation-intensity) && isIntensity (c .before .before .before .before .before .before .args .provision-intensity))) (sym (c .before .before .is-amount .ensures)) ∙ ap (λ (b : Bool). not (c .before .before .is-amount .result && b && isIntensity (c .before .before .before .before .before .before .args .operation-intensity) && isIntensity (c .before .before .before .before .before .before .args .provision-intensity))) (sym (c .before .is-distance .ensures)) ∙ c .if2 .taken)
-    )
+    let s = c .before .before .before .before .before .before in
+    sym (past-2 (c .before .before .before) ∙ stopped 7 _ (not-is4 (c .before .before .is-amount .result) (isAmount 0 (s .args .mass)) (c .before .is-distance .result) (isDistance 1 (s .args .distance)) (isIntensity (s .args .operation-intensity)) (isIntensity (s .args .provision-intensity)) (c .before .before .is-amount .ensures) (c .before .is-distance .ensures) ∙ c .if2 .taken))
 
 shared-slice-read-if3 : tie.Need-shared-slice-read-if3
 shared-slice-read-if3 c = omega (arith, sound-counted (c .before .before .before .before .before .before .before .args .book .now) (c .before .before .before .before .before .before .before .pre) .long)
 
 returns-3 : tie.Need-returns-3
-unfolding quoteRefusal
 returns-3 c =
-    sym
-    (
-    passed 1 (ap not (c .before .before .before .before .before .before .before .before .pre))
-    ∙ passed 3 (ap (λ (b : Bool). not (b && leb (c .before .before .before .before .before .before .before .before .args .adjust) 1)) (sym (c .before .before .before .before .before .before .is-chain .ensures)) ∙ c .before .before .before .before .before .if1 .left)
-    ∙ passed 7 (ap (λ (b : Bool). not (b && isDistance 1 (c .before .before .before .before .before .before .before .before .args .distance) && isIntensity (c .before .before .before .before .before .before .before .before .args .operation-intensity) && isIntensity (c .before .before .before .before .before .before .before .before .args .provision-intensity))) (sym (c .before .before .before .before .is-amount .ensures)) ∙ ap (λ (b : Bool). not (c .before .before .before .before .is-amount .result && b && isIntensity (c .before .before .before .before .before .before .before .before .args .operation-intensity) && isIntensity (c .before .before .before .before .before .before .before .before .args .provision-intensity))) (sym (c .before .before .before .is-distance .ensures)) ∙ c .before .before .if2 .left)
-    ∙ stopped 8 _ (le-leb mostElements (elements (c .before .before .before .before .before .before .before .before .args .book .now)) (c .if3 .taken))
-    )
+    let s = c .before .before .before .before .before .before .before .before in
+    sym (past-3 (c .before .before) ∙ stopped 8 _ (le-leb mostElements (elements (s .args .book .now)) (c .if3 .taken)))
 
 quoted-requires : tie.Need-quoted-requires
 quoted-requires c κs =
@@ -75,28 +91,12 @@ passes-activity-requires : tie.Need-passes-activity-requires
 passes-activity-requires c κs = search needs
 
 returns-4 : tie.Need-returns-4
-unfolding quoteRefusal
 returns-4 c =
-    sym
-    (
-    passed 1 (ap not (c .before .before .before .before .before .before .before .before .before .before .before .before .pre))
-    ∙ passed 3 (ap (λ (b : Bool). not (b && leb (c .before .before .before .before .before .before .before .before .before .before .before .before .args .adjust) 1)) (sym (c .before .before .before .before .before .before .before .before .before .before .is-chain .ensures)) ∙ c .before .before .before .before .before .before .before .before .before .if1 .left)
-    ∙ passed 7 (ap (λ (b : Bool). not (b && isDistance 1 (c .before .before .before .before .before .before .before .before .before .before .before .before .args .distance) && isIntensity (c .before .before .before .before .before .before .before .before .before .before .before .before .args .operation-intensity) && isIntensity (c .before .before .before .before .before .before .before .before .before .before .before .before .args .provision-intensity))) (sym (c .before .before .before .before .before .before .before .before .is-amount .ensures)) ∙ ap (λ (b : Bool). not (c .before .before .before .before .before .before .before .before .is-amount .result && b && isIntensity (c .before .before .before .before .before .before .before .before .before .before .before .before .args .operation-intensity) && isIntensity (c .before .before .before .before .before .before .before .before .before .before .before .before .args .provision-intensity))) (sym (c .before .before .before .before .before .before .before .is-distance .ensures)) ∙ c .before .before .before .before .before .before .if2 .left)
-    ∙ passed 8 (lt-leb mostElements (elements (c .before .before .before .before .before .before .before .before .before .before .before .before .args .book .now)) (c .before .before .before .before .if3 .left))
-    ∙ stopped 10 _ (quote-passes (c .before .before .before .before .before .before .before .before .before .before .before .before .args .book .now) (c .before .before .before .before .before .before .before .before .before .before .before .before .args .chain) (c .before .before .before .before .before .before .before .before .before .before .before .before .args .adjust) (c .before .before .before .before .before .before .before .before .before .before .before .before .args .mass) (c .before .before .before .before .before .before .before .before .before .before .before .before .args .distance) (c .before .before .before .before .before .before .before .before .before .before .before .before .args .operation-intensity) (c .before .before .before .before .before .before .before .before .before .before .before .before .args .provision-intensity) (c .before .before .before .quoted .result) (c .before .before .passes-amounts .result) (c .before .passes-activity .result) (c .before .before .before .quoted .ensures) (c .before .before .passes-amounts .ensures) (c .before .passes-activity .ensures) ∙ c .if4 .taken)
-    )
+    let s = c .before .before .before .before .before .before .before .before .before .before .before .before in
+    sym (past-4 (c .before .before .before .before) ∙ stopped 10 _ (quote-passes (s .args .book .now) (s .args .chain) (s .args .adjust) (s .args .mass) (s .args .distance) (s .args .operation-intensity) (s .args .provision-intensity) (c .before .before .before .quoted .result) (c .before .before .passes-amounts .result) (c .before .passes-activity .result) (c .before .before .before .quoted .ensures) (c .before .before .passes-amounts .ensures) (c .before .passes-activity .ensures) ∙ c .if4 .taken))
 
 returns-5 : tie.Need-returns-5
-unfolding quoteRefusal
-returns-5 c =
-    sym
-    (
-    passed 1 (ap not (c .before .before .before .before .before .before .before .before .before .before .before .before .pre))
-    ∙ passed 3 (ap (λ (b : Bool). not (b && leb (c .before .before .before .before .before .before .before .before .before .before .before .before .args .adjust) 1)) (sym (c .before .before .before .before .before .before .before .before .before .before .is-chain .ensures)) ∙ c .before .before .before .before .before .before .before .before .before .if1 .left)
-    ∙ passed 7 (ap (λ (b : Bool). not (b && isDistance 1 (c .before .before .before .before .before .before .before .before .before .before .before .before .args .distance) && isIntensity (c .before .before .before .before .before .before .before .before .before .before .before .before .args .operation-intensity) && isIntensity (c .before .before .before .before .before .before .before .before .before .before .before .before .args .provision-intensity))) (sym (c .before .before .before .before .before .before .before .before .is-amount .ensures)) ∙ ap (λ (b : Bool). not (c .before .before .before .before .before .before .before .before .is-amount .result && b && isIntensity (c .before .before .before .before .before .before .before .before .before .before .before .before .args .operation-intensity) && isIntensity (c .before .before .before .before .before .before .before .before .before .before .before .before .args .provision-intensity))) (sym (c .before .before .before .before .before .before .before .is-distance .ensures)) ∙ c .before .before .before .before .before .before .if2 .left)
-    ∙ passed 8 (lt-leb mostElements (elements (c .before .before .before .before .before .before .before .before .before .before .before .before .args .book .now)) (c .before .before .before .before .if3 .left))
-    ∙ passed 10 (quote-passes (c .before .before .before .before .before .before .before .before .before .before .before .before .args .book .now) (c .before .before .before .before .before .before .before .before .before .before .before .before .args .chain) (c .before .before .before .before .before .before .before .before .before .before .before .before .args .adjust) (c .before .before .before .before .before .before .before .before .before .before .before .before .args .mass) (c .before .before .before .before .before .before .before .before .before .before .before .before .args .distance) (c .before .before .before .before .before .before .before .before .before .before .before .before .args .operation-intensity) (c .before .before .before .before .before .before .before .before .before .before .before .before .args .provision-intensity) (c .before .before .before .quoted .result) (c .before .before .passes-amounts .result) (c .before .passes-activity .result) (c .before .before .before .quoted .ensures) (c .before .before .passes-amounts .ensures) (c .before .passes-activity .ensures) ∙ c .if4 .left)
-    )
+returns-5 c = sym (past-5 c)
 
 pub refusal-number-spec : {M : Type 1} → statement M
 refusal-number-spec =
