@@ -7,7 +7,7 @@ use lib.Dec.{eqb, leb, ltb}
 use borrow.Author.Tests.{eqb-true, not-false, leb-false, ltb-false}
 use Rattle.apportion.specs.Dividing.{largest}
 use Rattle.book_words.specs.Book.{categoryOf, categories, mostCategories, entries, mostEntries, entryAt, elements, mostElements}
-use Rattle.book_words.specs.Measures.{isKind, between, isGroup, unsuitedGroup, unsuited, isQuantity, isFactor, isChain, isCode, isAmount, isDistance, counted, isIntensity}
+use Rattle.book_words.specs.Measures.{isKind, between, isGroup, unsuitedGroup, unsuited, isQuantity, isFactor, isChain, isCode, isAmount, isDistance, massActivity, isIntensity}
 use Rattle.book_words.specs.Soundness.{sound}
 use Rattle.book_words.specs.Totals.{operation, provision, emitted, passesAmounts, activities, mostActivity, passesActivity}
 use Rattle.book.specs.Calls.{isClosed, openRefusal, postRefusal, unnumbered, strikeRefusal, enrolledElement, enrolRefusal, quotedAmount, quotedElement, quoteRefusal}
@@ -100,7 +100,7 @@ module _ (ws : List ℕ) where
     pub amount-fine : isAmount code amount ≡ true
     pub distance-fine : isDistance (categoryOf ws category .kind) distance ≡ true
     pub room : elements ws < mostElements
-    pub within : activities ws + counted (enrolledElement ws category chain code amount distance) ≤ mostActivity
+    pub within : activities ws + massActivity (enrolledElement ws category chain code amount distance) ≤ mostActivity
 
   pub enrolled : (category chain code amount distance : ℕ) → enrolRefusal ws category chain code amount distance ≡ 0
       → Enrolled category chain code amount distance
@@ -127,7 +127,7 @@ module _ (ws : List ℕ) where
         amount-fine = fine .0;
         distance-fine = fine .1;
         room = leb-false mostElements (elements ws) (eight .0);
-        within = ltb-false mostActivity (activities ws + counted (enrolledElement ws category chain code amount distance)) (ten .0);
+        within = ltb-false mostActivity (activities ws + massActivity (enrolledElement ws category chain code amount distance)) (ten .0);
       }
 
   pub record Quoted (chain adjust mass distance operationIntensity provisionIntensity : ℕ) : Type 0 where
@@ -140,7 +140,7 @@ module _ (ws : List ℕ) where
     pub room : elements ws < mostElements
     pub operation-within : emitted ws operation + quotedAmount adjust mass distance operationIntensity ≤ largest
     pub provision-within : emitted ws provision + quotedAmount adjust mass distance provisionIntensity ≤ largest
-    pub within : activities ws + counted (quotedElement chain adjust mass distance operationIntensity provisionIntensity) ≤ mostActivity
+    pub within : activities ws + massActivity (quotedElement chain adjust mass distance operationIntensity provisionIntensity) ≤ mostActivity
 
   pub quoted : (chain adjust mass distance operationIntensity provisionIntensity : ℕ) → quoteRefusal ws chain adjust mass distance operationIntensity provisionIntensity ≡ 0
       → Quoted chain adjust mass distance operationIntensity provisionIntensity
@@ -172,5 +172,5 @@ module _ (ws : List ℕ) where
         room = leb-false mostElements (elements ws) (eight .0);
         operation-within = ltb-false largest (emitted ws operation + byOperation) (amounts .0);
         provision-within = ltb-false largest (emitted ws provision + byProvision) (amounts .1);
-        within = ltb-false mostActivity (activities ws + counted element) (past .1);
+        within = ltb-false mostActivity (activities ws + massActivity element) (past .1);
       }

@@ -11,7 +11,7 @@ use borrow.Author.Tests.{le-leb, ne-eqb}
 use Rattle.apportion.specs.Dividing.{largest}
 use Rattle.apportion.specs.Places.{sumBelow}
 use Rattle.book_words.specs.Book.{categories, categoryAt, categoryOf, entries, entryAt, elements, elementAt, mostCategories, mostEntries, mostElements}
-use Rattle.book_words.specs.Measures.{between, counted, isGroup, unsuitedGroup}
+use Rattle.book_words.specs.Measures.{between, massActivity, isGroup, unsuitedGroup}
 use Rattle.book_words.specs.Soundness.{entryFine, entrySuits, elementFine, elementSuits, categoryFine}
 use Rattle.book_words.specs.Totals.{Side, unstruck, allUnstruck, unstruckOf, sharesOf, activities, shareOf, emitted, mostActivity}
 use Rattle.book_words.specs.declared.records.Category.{Category}
@@ -105,7 +105,7 @@ module _ (ws ws′ : List ℕ) where
         (λ p. cond (eqb (elementAt ws′ p .category) k) (shareOf s (elementAt ws′ p)) 0)
         (λ p. cond (eqb (elementAt ws p .category) k) (shareOf s (elementAt ws p)) 0)
         (λ p h. ap (λ (r : Element). cond (eqb (r .category) k) (shareOf s r) 0) (same p h))),
-    rw e (sum-cong (elements ws) (λ p. counted (elementAt ws′ p)) (λ p. counted (elementAt ws p)) (λ p h. ap counted (same p h))),
+    rw e (sum-cong (elements ws) (λ p. massActivity (elementAt ws′ p)) (λ p. massActivity (elementAt ws p)) (λ p h. ap massActivity (same p h))),
   )
 
   -- the sums over a list with one record more
@@ -128,7 +128,7 @@ module _ (ws ws′ : List ℕ) where
 
   pub elements-more : (r : Element) → elements ws′ ≡ elements ws + 1 → ((p : ℕ) → p < elements ws → elementAt ws′ p ≡ elementAt ws p) → elementAt ws′ (elements ws) ≡ r
       → ((k : ℕ) (s : Side) → sharesOf ws′ k s ≡ sharesOf ws k s + cond (eqb (r .category) k) (shareOf s r) 0)
-      × (activities ws′ ≡ activities ws + counted r)
+      × (activities ws′ ≡ activities ws + massActivity r)
   unfolding sharesOf activities
   elements-more r e same new = (
     λ k s.
@@ -138,8 +138,8 @@ module _ (ws ws′ : List ℕ) where
         (cond (eqb (r .category) k) (shareOf s r) 0) e
         (λ p h. ap (λ (x : Element). cond (eqb (x .category) k) (shareOf s x) 0) (same p h))
         (ap (λ (x : Element). cond (eqb (x .category) k) (shareOf s x) 0) new),
-    sum-one-more (elements ws) (elements ws′) (λ p. counted (elementAt ws p)) (λ p. counted (elementAt ws′ p)) (counted r) e
-        (λ p h. ap counted (same p h)) (ap counted new),
+    sum-one-more (elements ws) (elements ws′) (λ p. massActivity (elementAt ws p)) (λ p. massActivity (elementAt ws′ p)) (massActivity r) e
+        (λ p h. ap massActivity (same p h)) (ap massActivity new),
   )
 
   -- the categories are the same
@@ -306,7 +306,7 @@ module _ (ws ws′ : List ℕ) where
   -- an element appended
   pub element-keeps : (r : Element) → Whole ws → ElementAdded ws ws′ r → elements ws < mostElements → elementFine ws r ≡ true
       → ((s : Side) → emitted ws s + cond (eqb (r .category) 0) (shareOf s r) 0 ≤ largest)
-      → activities ws + counted r ≤ mostActivity
+      → activities ws + massActivity r ≤ mostActivity
       → ((p : ℕ) (s : Side) → cond (eqb (r .category) (p + 1)) (shareOf s r) 0 ≡ 0)
       → Whole ws′
   element-keeps r w a room fine within active none =

@@ -1,5 +1,5 @@
--- The laws of the calls, for the crates above. Of each call: an accepted one changes its own record and counts it, and keeps
--- every other (`CategoryAdded`, `EntryAdded`, `EntryStruck`, `ElementAdded` of `Views`); a refused one leaves the list as it was;
+-- The laws of the calls, for the crates above. Of each call: what an accepted one changes, and that it keeps all else (`Fresh`, and
+-- `CategoryAdded`, `EntryAdded`, `EntryStruck`, `ElementAdded` of `Views`); that a refused one leaves the list as it was; that
 -- either leaves a sound book sound. Assumes nothing.
 use mathlib.Core.Bool.{true, cond}
 use mathlib.Core.List.{List}

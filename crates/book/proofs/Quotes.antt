@@ -9,7 +9,7 @@ use borrow.Author.Tests.{leb-true}
 use Rattle.apportion.specs.Dividing.{largest}
 use Rattle.book_words.specs.Measures.{nearest, isAmount, isDistance, isIntensity}
 use Rattle.book.specs.Calls.{adjusted, quotedAmount, quotedElement}
-use Rattle.book.specs.Quotes.{cappedQuote, Quotable}
+use Rattle.book.specs.Quotes.{capShares, Quotable}
 use Rattle.book_words.proofs.Capping.{capped-small}
 use Rattle.book_words.proofs.Ranges.{amount-most, distance-most}
 
@@ -30,7 +30,7 @@ adjusted-most adjust distance h = go (eqb adjust 1)
 pub uncapped : (chain adjust mass distance operationIntensity provisionIntensity : ℕ)
     → quotedAmount adjust mass distance operationIntensity ≤ largest
     → quotedAmount adjust mass distance provisionIntensity ≤ largest
-    → cappedQuote chain adjust mass distance operationIntensity provisionIntensity ≡ quotedElement chain adjust mass distance operationIntensity provisionIntensity
+    → capShares (quotedElement chain adjust mass distance operationIntensity provisionIntensity) ≡ quotedElement chain adjust mass distance operationIntensity provisionIntensity
 uncapped chain adjust mass distance operationIntensity provisionIntensity a b =
     rw (capped-small (quotedAmount adjust mass distance operationIntensity) a, capped-small (quotedAmount adjust mass distance provisionIntensity) b)
 

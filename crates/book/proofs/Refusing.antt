@@ -8,17 +8,16 @@ use lib.Dec.{eqb}
 use borrow.Author.Tests.{not-false, ne-eqb, eq-eqb}
 use Rattle.apportion.specs.Dividing.{refusal}
 use Rattle.apportion.specs.Grounds.{accepted}
-use Rattle.book_words.specs.Book.{categories, categoryOf, entries, entryAt, mostEntries}
-use Rattle.book_words.specs.Measures.{between, counted}
-use Rattle.book_words.specs.Parts.{numberedCategory, numberedEntry}
+use Rattle.book_words.specs.Book.{numberedCategory, categories, categoryOf, numberedEntry, entries, entryAt, mostEntries}
+use Rattle.book_words.specs.Measures.{between, massActivity}
 use Rattle.book_words.specs.Soundness.{sound, entriesFine, entryFine}
 use Rattle.book_words.specs.Totals.{capped, passesAmounts, emitted, operation, provision, passesActivity}
 use Rattle.book_words.specs.declared.records.Category.{Category}
 use Rattle.book_words.specs.declared.records.Element.{Element}
 use Rattle.book_words.specs.declared.records.Entry.{Entry}
 use Rattle.book.specs.declared.replies.Reply.{Reply}
-use Rattle.book.specs.Calls.{unnumbered, isClosed, replyOf, quotedAmount, quotedElement}
-use Rattle.book.specs.Quotes.{cappedQuote}
+use Rattle.book.specs.Calls.{unnumbered, isClosed, replyOf, quotedElement, quotedAmount}
+use Rattle.book.specs.Quotes.{capShares}
 use Rattle.book_words.proofs.Capping.{capped-added}
 use Rattle.book_words.proofs.Every.{every-at}
 use Rattle.book_words.proofs.Facts.{sound-counted, sound-parts}
@@ -88,13 +87,13 @@ numbered-entry ws entry fine left =
 
 -- ground 10 of a quote, from its capped element
 pub quote-passes : (ws : List ℕ) (chain adjust mass distance operationIntensity provisionIntensity : ℕ) (e : Element) (a b : Bool)
-    → e ≡ cappedQuote chain adjust mass distance operationIntensity provisionIntensity
+    → e ≡ capShares (quotedElement chain adjust mass distance operationIntensity provisionIntensity)
     → a ≡ passesAmounts ws (e .operation) (e .provision)
     → b ≡ passesActivity ws e
     → passesAmounts ws (quotedAmount adjust mass distance operationIntensity) (quotedAmount adjust mass distance provisionIntensity)
     || passesActivity ws (quotedElement chain adjust mass distance operationIntensity provisionIntensity)
     ≡ a || b
-unfolding counted
+unfolding massActivity
 quote-passes ws chain adjust mass distance operationIntensity provisionIntensity e a b is p q =
     rw (
       p,

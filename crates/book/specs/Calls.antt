@@ -2,14 +2,14 @@
 -- it go by the number of the first ground that holds. Assumes nothing.
 use mathlib.Core.Bool.{not, Bool, _&&_, _||_, cond}
 use mathlib.Core.List.{List, _++_, _∷_, []}
-use Prim.Native.Nat.{ℕ, _+_, _*_, _-_}
+use Prim.Native.Nat.{ℕ, _+_, _*_}
 use lib.Dec.{ltb, leb, eqb}
 use lib.ListN.{drop, length, set}
 use Rattle.apportion.specs.Dividing.{refusal}
 use Rattle.apportion.specs.Grounds.{accepted, Ground, firstOf}
 use Rattle.apportion.specs.Places.{listBelow}
-use Rattle.book_words.specs.Book.{bookLength, mark, mostCategories, categories, addCategory, categoryOf, mostEntries, entries, addEntry, entryAt, mostElements, elements, addElement}
-use Rattle.book_words.specs.Measures.{isKind, between, isGroup, unsuited, unsuitedGroup, isQuantity, isFactor, activityOf, isChain, isCode, isAmount, isDistance, nearest, isIntensity}
+use Rattle.book_words.specs.Book.{bookLength, mark, mostCategories, categories, addCategory, categoryOf, mostEntries, entries, addEntry, entryOf, strikeEntry, mostElements, elements, addElement}
+use Rattle.book_words.specs.Measures.{isKind, between, isGroup, unsuitedGroup, unsuited, isQuantity, isFactor, activityOf, isChain, isCode, isAmount, isDistance, nearest, isAdjust, isIntensity}
 use Rattle.book_words.specs.Soundness.{sound}
 use Rattle.book_words.specs.Totals.{passesAmounts, passesActivity}
 use Rattle.book_words.specs.declared.records.Element.{Element}
@@ -100,14 +100,14 @@ abbrev pub strikeGrounds : List ℕ → ℕ → List Ground
 strikeGrounds ws entry =
     (1, not (sound ws))
     ∷ (2, unnumbered (entries ws) entry)
-    ∷ (4, isClosed ws (entryAt ws (entry - 1) .category) || not (eqb (entryAt ws (entry - 1) .struck) 0))
+    ∷ (4, isClosed ws (entryOf ws entry .category) || not (eqb (entryOf ws entry .struck) 0))
     ∷ []
 
 unfoldable pub strikeRefusal : List ℕ → ℕ → ℕ
 strikeRefusal ws entry = firstOf (strikeGrounds ws entry)
 
 unfoldable pub strikeBook : List ℕ → ℕ → List ℕ
-strikeBook ws entry = accepted (strikeRefusal ws entry) (set ws (36 + 5 * (entry - 1) + 4) 1) ws
+strikeBook ws entry = accepted (strikeRefusal ws entry) (strikeEntry ws entry) ws
 
 -- "**enrol** (category, chain, code, amount, distance)"
 abbrev pub enrolledElement : List ℕ → ℕ → ℕ → ℕ → ℕ → ℕ → Element
@@ -172,10 +172,11 @@ quotedElement chain adjust mass distance operationIntensity provisionIntensity =
       provision = quotedAmount adjust mass distance provisionIntensity;
     }
 
+-- a quote is measured as freight (code 0) outside a hub (kind 1)
 abbrev pub quoteGrounds : List ℕ → ℕ → ℕ → ℕ → ℕ → ℕ → ℕ → List Ground
 quoteGrounds ws chain adjust mass distance operationIntensity provisionIntensity =
     (1, not (sound ws))
-    ∷ (3, not (isChain chain && leb adjust 1))
+    ∷ (3, not (isChain chain && isAdjust adjust))
     ∷ (7, not (isAmount 0 mass && isDistance 1 distance && isIntensity operationIntensity && isIntensity provisionIntensity))
     ∷ (8, leb mostElements (elements ws))
     ∷ (

@@ -1,8 +1,8 @@
 // Appended records: every word of the record is written, and the record is counted.
 ghost use mathlib.Core.Path.{_≡_};
-ghost use Prim.Native.Nat.{_+_, _≤_, _<_};
+ghost use Prim.Native.Nat.{_≤_, _<_, _+_};
 ghost use lib.ListN.{length};
-ghost use Rattle.book_words.specs.Book.{bookLength, categories, entries, elements, mostCategories, mostEntries, mostElements, addCategory, addEntry, addElement};
+ghost use Rattle.book_words.specs.Book.{bookLength, categories, mostCategories, addCategory, entries, mostEntries, addEntry, elements, mostElements, addElement};
 ghost use Rattle.book.specs.Calls.{replyOf};
 use crate::replies::Reply;
 use book_words::Category;
@@ -16,7 +16,7 @@ pub fn add_category(book: &mut [u64], added: Category) -> Reply
     ensures { λ _. ⌜ now (book .exit) ≡ addCategory (now (book .entry)) added ⌝ }
 {
     let count = book[book_words::CATEGORIES];
-    let at = 4 + 2 * (count as usize);
+    let at = book_words::FIRST_CATEGORY + book_words::CATEGORY_WORDS * (count as usize);
     book[at] = added.kind;
     book[at + 1] = added.closed;
     book[book_words::CATEGORIES] = count + 1;
@@ -33,7 +33,7 @@ pub fn add_entry(book: &mut [u64], added: Entry) -> Reply
     ensures { λ _. ⌜ now (book .exit) ≡ addEntry (now (book .entry)) added ⌝ }
 {
     let count = book[book_words::ENTRIES];
-    let at = 36 + 5 * (count as usize);
+    let at = book_words::FIRST_ENTRY + book_words::ENTRY_WORDS * (count as usize);
     book[at] = added.category;
     book[at + 1] = added.group;
     book[at + 2] = added.operation;
@@ -53,7 +53,7 @@ pub fn add_element(book: &mut [u64], added: Element) -> Reply
     ensures { λ _. ⌜ now (book .exit) ≡ addElement (now (book .entry)) added ⌝ }
 {
     let count = book[book_words::ELEMENTS];
-    let at = 356 + 8 * (count as usize);
+    let at = book_words::FIRST_ELEMENT + book_words::ELEMENT_WORDS * (count as usize);
     book[at] = added.category;
     book[at + 1] = added.chain;
     book[at + 2] = added.code;

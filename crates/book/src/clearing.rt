@@ -3,7 +3,7 @@ ghost use mathlib.Core.Path.{_≡_};
 ghost use Prim.Native.Nat.{_≤_};
 ghost use lib.ListN.{length};
 ghost use Rattle.book_words.specs.Book.{bookLength};
-ghost use Rattle.book.specs.Calls.{cleared, freshRefusal, freshBook};
+ghost use Rattle.book.specs.Calls.{freshRefusal, freshBook, cleared};
 
 // Makes an empty book of any words, and answers the refusal number.
 pub fn fresh(book: &mut [u64]) -> u64

@@ -1,11 +1,10 @@
 // Enrol: appends an element of a category.
-ghost use mathlib.Core.Path.{_≡_};
 ghost use mathlib.Core.Bool.{true};
-ghost use Prim.Native.Nat.{_≤_};
-ghost use Rattle.book_words.specs.Book.{mostCategories, categories, categoryOf};
+ghost use mathlib.Core.Path.{_≡_};
+ghost use Rattle.book_words.specs.Book.{categories, categoryOf};
 ghost use Rattle.book_words.specs.Measures.{between, isCode, isAmount, isDistance};
 ghost use Rattle.book_words.specs.Soundness.{sound};
-ghost use Rattle.book.specs.Calls.{enrolRefusal, enrolReply, enrolBook, enrolledElement};
+ghost use Rattle.book.specs.Calls.{enrolReply, enrolBook, enrolRefusal, enrolledElement};
 use crate::appending;
 use crate::replies;
 use crate::replies::Reply;

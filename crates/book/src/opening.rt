@@ -1,8 +1,8 @@
 // Open: appends a category.
-ghost use mathlib.Core.Path.{_≡_};
 ghost use mathlib.Core.Bool.{true};
+ghost use mathlib.Core.Path.{_≡_};
 ghost use Rattle.book_words.specs.Soundness.{sound};
-ghost use Rattle.book.specs.Calls.{openRefusal, openReply, openBook};
+ghost use Rattle.book.specs.Calls.{openReply, openBook, openRefusal};
 use crate::appending;
 use crate::replies;
 use crate::replies::Reply;

@@ -1,8 +1,8 @@
 // Post: appends an entry.
-ghost use mathlib.Core.Path.{_≡_};
 ghost use mathlib.Core.Bool.{true};
+ghost use mathlib.Core.Path.{_≡_};
 ghost use Rattle.book_words.specs.Soundness.{sound};
-ghost use Rattle.book.specs.Calls.{postRefusal, postReply, postBook};
+ghost use Rattle.book.specs.Calls.{postReply, postBook, postRefusal};
 use crate::appending;
 use crate::replies;
 use crate::replies::Reply;

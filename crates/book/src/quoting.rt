@@ -1,11 +1,11 @@
 // Quote: appends an element of category 0 with its own shares.
-ghost use mathlib.Core.Path.{_≡_};
 ghost use mathlib.Core.Bool.{true};
+ghost use mathlib.Core.Path.{_≡_};
 ghost use Prim.Native.Nat.{_≤_};
 ghost use Rattle.book_words.specs.Soundness.{sound};
-ghost use Rattle.book.specs.Calls.{quoteRefusal, quoteReply, quoteBook, quotedAmount, adjusted as adjustedBy};
 ghost use Rattle.book_words.specs.Totals.{capped};
-ghost use Rattle.book.specs.Quotes.{Quotable, cappedQuote};
+ghost use Rattle.book.specs.Calls.{quoteReply, quoteBook, quoteRefusal, quotedElement, quotedAmount, adjusted as adjustedBy};
+ghost use Rattle.book.specs.Quotes.{Quotable, capShares};
 use crate::appending;
 use crate::replies;
 use crate::replies::Reply;
@@ -133,7 +133,7 @@ fn quoted(
 ) -> Element
     requires { ⌜ Quotable mass distance «operation_intensity» ⌝ }
     requires { ⌜ Quotable mass distance «provision_intensity» ⌝ }
-    ensures { λ r. ⌜ r ≡ cappedQuote chain adjust mass distance «operation_intensity» «provision_intensity» ⌝ }
+    ensures { λ r. ⌜ r ≡ capShares (quotedElement chain adjust mass distance «operation_intensity» «provision_intensity») ⌝ }
 {
     Element {
         category: 0,
@@ -159,7 +159,7 @@ fn quoted_amount(adjust: u64, mass: u64, distance: u64, intensity: u64) -> u64
     book_words::add(whole, rest)
 }
 
-// D: the distance, with adjust 1 that of the air default.
+// D: the distance, with adjust 1 plus the air default.
 fn adjusted(adjust: u64, distance: u64) -> u64
     requires { ⌜ distance ≤ 40_000_000 ⌝ }
     ensures { λ r. ⌜ r ≡ adjustedBy adjust distance ⌝ }

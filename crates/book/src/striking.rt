@@ -1,6 +1,6 @@
 // Strike: sets an entry's struck word.
-ghost use mathlib.Core.Path.{_≡_};
 ghost use mathlib.Core.Bool.{true};
+ghost use mathlib.Core.Path.{_≡_};
 ghost use Rattle.book_words.specs.Soundness.{sound};
 ghost use Rattle.book.specs.Calls.{strikeRefusal, strikeBook};
 
@@ -24,7 +24,7 @@ pub fn strike_sound(book: &mut [u64], entry: u64) -> u64
     let refusal = refusal_number(book, entry);
     if refusal == 0 {
         let place = entry as usize - 1;
-        book[36 + 5 * place + 4] = 1;
+        book[book_words::FIRST_ENTRY + book_words::ENTRY_WORDS * place + 4] = 1;
     }
     refusal
 }

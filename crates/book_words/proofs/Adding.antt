@@ -2,10 +2,10 @@
 use mathlib.Core.Path.{_≡_, ap, refl, _∙_}
 use Prim.Native.Nat.{ℕ, _≤_, _<_, _+_}
 use native.Mathlib.Omega.{arith}
-use Rattle.apportion.specs.Dividing.{largest}
 use Rattle.apportion.specs.Places.{sumBelow}
 use Rattle.book_words.specs.declared.totals.Amounts.{Amounts}
-use Rattle.book_words.specs.Totals.{capped, Side, operation, provision, bySides, sideOf}
+use Rattle.book_words.specs.Parts.{bySides, sideOf}
+use Rattle.book_words.specs.Totals.{capped, Side, operation, provision}
 use Rattle.apportion.proofs.Sums.{sum-next}
 use Rattle.book_words.proofs.Capping.{capped-add}
 

@@ -9,13 +9,13 @@ use borrow.Author.Tests.{leb-true, eqb-true}
 use Rattle.apportion.specs.Dividing.{largest}
 use Rattle.apportion.specs.Places.{at}
 use Rattle.book_words.specs.Book.{mark, bookLength, categories, mostCategories, entries, mostEntries, elements, mostElements}
-use Rattle.book_words.specs.Parts.{Counted, Limited, countIn, recordFine}
+use Rattle.book_words.specs.Parts.{CountsWithin, Limited, countIn, recordFine}
 use Rattle.book_words.specs.Soundness.{headerFine, sumsFine, categoriesFine, entriesFine, elementsFine, closingsFine, sound, allBelow}
 use Rattle.book_words.specs.Totals.{emitted, operation, provision, activities, mostActivity}
 use Rattle.book_words.proofs.Booleans.{both, and-false}
 
 module _ (ws : List ℕ) where
-  header-parts : headerFine ws ≡ true → Counted ws × (at ws 0 ≡ mark)
+  header-parts : headerFine ws ≡ true → CountsWithin ws × (at ws 0 ≡ mark)
   unfolding headerFine
   header-parts e =
       let long = leb bookLength (length ws) in
@@ -36,7 +36,7 @@ module _ (ws : List ℕ) where
         eqb-true (at ws 0) mark (f .1),
       )
 
-  pub header-counted : headerFine ws ≡ true → Counted ws
+  pub header-counted : headerFine ws ≡ true → CountsWithin ws
   header-counted e = header-parts e .0
 
   pub header-marked : headerFine ws ≡ true → at ws 0 ≡ mark
@@ -92,7 +92,7 @@ module _ (ws : List ℕ) where
         closings = closings .1;
       }
 
-  pub sound-counted : sound ws ≡ true → Counted ws
+  pub sound-counted : sound ws ≡ true → CountsWithin ws
   sound-counted e = header-counted (sound-parts e .header)
 
   -- the test by its parts, as the code takes them

@@ -11,7 +11,7 @@ use Rattle.book_words.specs.declared.records.Category.{Category}
 use Rattle.book_words.specs.declared.records.Element.{Element}
 use Rattle.book_words.specs.declared.records.Entry.{Entry}
 use Rattle.book_words.specs.Book.{categories, categoryOf, entries, entryAt, categoryAt}
-use Rattle.book_words.specs.Measures.{between, isGroup, unsuited, unsuitedGroup, isAmount, isDistance, activityOf, isChain, isCode}
+use Rattle.book_words.specs.Measures.{between, isGroup, unsuitedGroup, unsuited, isAmount, isDistance, activityOf, isChain, isCode}
 use Rattle.book_words.specs.Parts.{Limited}
 use Rattle.book_words.specs.Soundness.{entryFine, entrySuits, quotedSuits, elementFine, elementSuits, sharesFine, measured, sharesWait}
 use Rattle.book_words.specs.Totals.{Side, unstruckOf, unstruck, allUnstruck, capped, sharesOf, operation, provision}

@@ -12,11 +12,11 @@ use borrow.Author.Tests.{ne-eqb, eqb-true, eq-eqb, le-leb}
 use Rattle.apportion.specs.Dividing.{largest}
 use Rattle.apportion.specs.Places.{at}
 use Rattle.book_words.specs.Book.{categoryAt, mark, categories, entries, entryAt, elements, elementAt, bookLength, mostCategories, mostEntries, mostElements}
-use Rattle.book_words.specs.Parts.{Counted, Limited}
+use Rattle.book_words.specs.Parts.{CountsWithin, Limited}
 use Rattle.book_words.specs.Soundness.{categoryFine, entryFine, elementFine, sharesFine, sound, categoriesFine, entriesFine, elementsFine, closingsFine, headerFine, sumsFine}
 use Rattle.book_words.specs.Totals.{Side, sharesOf, unstruckOf, activities, mostActivity, operation, provision, emitted}
 use Rattle.book_words.proofs.Booleans.{cond-false, both}
-use Rattle.book_words.proofs.Every.{every, every-at}
+use Rattle.book_words.proofs.Every.{every-at, every}
 use Rattle.book_words.proofs.Facts.{sound-parts, header-counted, header-marked, sums-limited, sums-active}
 
 module _ (ws : List ℕ) where
@@ -25,7 +25,7 @@ module _ (ws : List ℕ) where
   Balanced place = (categoryAt ws place .closed ≡ 0 → ⊥) → (side : Side) → sharesOf ws (place + 1) side ≡ unstruckOf ws (place + 1) side
 
   pub record Whole : Type 0 where
-    pub counts : Counted ws
+    pub counts : CountsWithin ws
     pub marked : at ws 0 ≡ mark
     pub each-category : (p : ℕ) → p < categories ws → categoryFine (categoryAt ws p) ≡ true
     pub each-entry : (p : ℕ) → p < entries ws → entryFine ws (entryAt ws p) ≡ true

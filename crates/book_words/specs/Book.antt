@@ -1,5 +1,6 @@
 -- "The book" of document 01: a lent slice of 64-bit words, given here as the list of its words. "Records are numbered from
 -- 1"; places are counted from 0, and the record of number n stands at place n - 1. Assumes nothing.
+use mathlib.Core.Bool.{cond}
 use mathlib.Core.List.{List, [], _∷_}
 use Prim.Native.Nat.{ℕ, _+_, _*_, _-_}
 use lib.ListN.{set}
@@ -7,6 +8,7 @@ use Rattle.apportion.specs.Places.{at}
 use Rattle.book_words.specs.declared.records.Category.{Category}
 use Rattle.book_words.specs.declared.records.Element.{Element}
 use Rattle.book_words.specs.declared.records.Entry.{Entry}
+use Rattle.book_words.specs.Measures.{between}
 
 -- "the first 2,404 are the book"
 abbrev pub bookLength : ℕ
@@ -40,7 +42,7 @@ mostElements = 256
 abbrev pub categoryAt : List ℕ → ℕ → Category
 categoryAt ws place = record { kind = at ws (4 + 2 * place); closed = at ws (4 + 2 * place + 1) }
 
--- the category of this number
+-- the category of this number, which is looked at only where it is from 1 to the count
 abbrev pub categoryOf : List ℕ → ℕ → Category
 categoryOf ws number = categoryAt ws (number - 1)
 
@@ -54,6 +56,10 @@ entryAt ws place =
       provision = at ws (36 + 5 * place + 3);
       struck = at ws (36 + 5 * place + 4);
     }
+
+-- the entry of this number, likewise
+abbrev pub entryOf : List ℕ → ℕ → Entry
+entryOf ws number = entryAt ws (number - 1)
 
 -- "from word 356, elements, 8 words: category (0 when quoted), chain (1 to 10,000), code, amount, distance, activity,
 -- operation share, provision share"
@@ -102,6 +108,10 @@ putElement ws place r =
     ∷ (356 + 8 * place + 7, r .provision)
     ∷ [])
 
+-- an entry's struck word is set
+abbrev pub strikeEntry : List ℕ → ℕ → List ℕ
+strikeEntry ws number = set ws (36 + 5 * (number - 1) + 4) 1
+
 -- a record is appended: written at the place after the last, and counted
 unfoldable pub addCategory : List ℕ → Category → List ℕ
 addCategory ws r = set (putCategory ws (categories ws) r) 1 (categories ws + 1)
@@ -111,3 +121,14 @@ addEntry ws r = set (putEntry ws (entries ws) r) 2 (entries ws + 1)
 
 unfoldable pub addElement : List ℕ → Element → List ℕ
 addElement ws r = set (putElement ws (elements ws) r) 3 (elements ws + 1)
+
+-- the record of this number, or zeros where there is none
+abbrev pub numberedCategory : List ℕ → ℕ → Category
+numberedCategory ws number =
+    cond (between 1 (categories ws) number) (categoryOf ws number) (record { kind = 0; closed = 0 })
+
+abbrev pub numberedEntry : List ℕ → ℕ → Entry
+numberedEntry ws number =
+    cond (between 1 (entries ws) number)
+    (entryOf ws number)
+    (record { category = 0; group = 0; operation = 0; provision = 0; struck = 0 })

@@ -4,6 +4,7 @@ use Prim.Native.Nat.{ℕ, _*_, _+_, _/_}
 use lib.Dec.{leb, eqb}
 use Rattle.book_words.specs.declared.records.Element.{Element}
 
+-- low ≤ n ≤ high
 abbrev pub between : ℕ → ℕ → ℕ → Bool
 between low high n = leb low n && leb n high
 
@@ -33,9 +34,13 @@ isPassenger code = between 100 1000 code
 abbrev pub isCode : ℕ → Bool
 isCode code = isFreight code || isPassenger code
 
+-- "adjust (0 or 1)"
+abbrev pub isAdjust : ℕ → Bool
+isAdjust adjust = leb adjust 1
+
 -- ground 6: "Freight is enrolled in kind 2, passengers in kind 1 or 4"
 abbrev pub unsuited : ℕ → ℕ → Bool
-unsuited kind code = isFreight code && eqb kind 2 || isPassenger code && (eqb kind 1 || eqb kind 4)
+unsuited kind code = (isFreight code && eqb kind 2) || (isPassenger code && (eqb kind 1 || eqb kind 4))
 
 -- ground 6: "or group 1 or 2 is posted to kind 2"
 abbrev pub unsuitedGroup : ℕ → ℕ → Bool
@@ -68,8 +73,8 @@ activityOf kind code amount distance =
 
 -- an element's activity in ground 10: "passengers as in P", which is "head count × 100 × distance (100 kg per
 -- passenger, Annex A.4.2)"
-unfoldable pub counted : Element → ℕ
-counted e = cond (isFreight (e .code)) (e .activity) (e .amount * 100 * e .distance)
+unfoldable pub massActivity : Element → ℕ
+massActivity e = cond (isFreight (e .code)) (e .activity) (e .amount * 100 * e .distance)
 
 -- "nearest, halves up": the whole number nearest to n / d
 abbrev pub nearest : ℕ → ℕ → ℕ

@@ -10,7 +10,7 @@ use Rattle.book_words.specs.declared.records.Category.{Category}
 use Rattle.book_words.specs.declared.records.Element.{Element}
 use Rattle.book_words.specs.declared.records.Entry.{Entry}
 use Rattle.book_words.specs.Book.{bookLength, mark, categories, mostCategories, entries, mostEntries, elements, mostElements, categoryOf, categoryAt, entryAt, elementAt}
-use Rattle.book_words.specs.Measures.{isKind, isGroup, unsuitedGroup, unsuited, between, isAmount, isDistance, activityOf, isChain, isCode}
+use Rattle.book_words.specs.Measures.{isKind, isGroup, unsuited, unsuitedGroup, between, isAmount, isDistance, activityOf, isChain, isCode}
 use Rattle.book_words.specs.Totals.{operation, provision, emitted, activities, mostActivity, sharesOf, unstruckOf}
 
 -- every place below n passes the test

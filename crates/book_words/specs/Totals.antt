@@ -7,9 +7,8 @@ use Rattle.apportion.specs.Dividing.{largest}
 use Rattle.apportion.specs.Places.{sumBelow}
 use Rattle.book_words.specs.declared.records.Element.{Element}
 use Rattle.book_words.specs.declared.records.Entry.{Entry}
-use Rattle.book_words.specs.declared.totals.Amounts.{Amounts}
 use Rattle.book_words.specs.Book.{entries, entryAt, elements, elementAt}
-use Rattle.book_words.specs.Measures.{counted}
+use Rattle.book_words.specs.Measures.{massActivity}
 
 -- "Operation (VO) and provision (VEP) amounts are kept separate throughout (Formulae 1 to 5)."
 pub data Side : Type 0 where
@@ -42,15 +41,13 @@ unfoldable pub sharesOf : List ℕ → ℕ → Side → ℕ
 sharesOf ws category side =
     sumBelow (elements ws) (λ p. cond (eqb (elementAt ws p .category) category) (shareOf side (elementAt ws p)) 0)
 
--- ground 10: "Unstruck entries plus quoted shares"
+-- ground 10: "Unstruck entries plus quoted shares"; their limit of 10^18 µg is `largest`
 abbrev pub emitted : List ℕ → Side → ℕ
 emitted ws side = allUnstruck ws side + sharesOf ws 0 side
 
--- "10^18 µg in operation or provision" is `largest`
-
 -- ground 10: "activity over all elements (hubs and quotes too, passengers as in P)"
 unfoldable pub activities : List ℕ → ℕ
-activities ws = sumBelow (elements ws) (λ p. counted (elementAt ws p))
+activities ws = sumBelow (elements ws) (λ p. massActivity (elementAt ws p))
 
 -- "10^17"
 abbrev pub mostActivity : ℕ
@@ -63,15 +60,7 @@ passesAmounts ws byOperation byProvision =
 
 -- ground 10: with this element more, "activity over all elements .. would pass 10^17"
 abbrev pub passesActivity : List ℕ → Element → Bool
-passesActivity ws e = ltb mostActivity (activities ws + counted e)
-
--- an amount of this side, and two amounts by their sides
-abbrev pub sideOf : Side → Amounts → ℕ
-sideOf operation a = a .operation
-sideOf provision a = a .provision
-
-abbrev pub bySides : (Side → ℕ) → Amounts
-bySides amount = record { operation = amount operation; provision = amount provision }
+passesActivity ws e = ltb mostActivity (activities ws + massActivity e)
 
 -- A sum of any words may pass 64 bits. The code's sums stop at 10^18 + 1, which decides every ground as the sum does.
 abbrev pub capped : ℕ → ℕ

@@ -1,6 +1,6 @@
 // Codes, ranges and activities.
 ghost use mathlib.Core.Path.{_≡_};
-ghost use Rattle.book_words.specs.Measures.{isKind, isGroup, isChain, isCode, unsuited, unsuitedGroup, isQuantity, isFactor, isAmount, isDistance, isIntensity, activityOf};
+ghost use Rattle.book_words.specs.Measures.{isKind, isChain, isCode, unsuited, unsuitedGroup, isAmount, isDistance, activityOf};
 ghost use Rattle.book_words.specs.Totals.{capped};
 use crate::totals;
 

@@ -1,8 +1,8 @@
-// The records of the book: each is read from its words, and written to them, at its place.
+// The layout of a book, and its records, each read from its words.
 ghost use mathlib.Core.Path.{_≡_};
-ghost use Prim.Native.Nat.{_+_, _≤_, _<_};
+ghost use Prim.Native.Nat.{_≤_, _<_};
 ghost use lib.ListN.{length};
-ghost use Rattle.book_words.specs.Book.{bookLength, categories, entries, elements, mostCategories, mostEntries, mostElements, categoryAt, entryAt, elementAt, putCategory, putEntry, putElement, addCategory, addEntry, addElement};
+ghost use Rattle.book_words.specs.Book.{bookLength, mostCategories, categoryAt, mostEntries, entryAt, mostElements, elementAt};
 
 // The words of a book.
 pub const BOOK_LENGTH: usize = 2404;
@@ -16,6 +16,19 @@ pub const CATEGORIES: usize = 1;
 pub const ENTRIES: usize = 2;
 
 pub const ELEMENTS: usize = 3;
+
+// Where the lists begin, and the words of a record.
+pub const FIRST_CATEGORY: usize = 4;
+
+pub const CATEGORY_WORDS: usize = 2;
+
+pub const FIRST_ENTRY: usize = 36;
+
+pub const ENTRY_WORDS: usize = 5;
+
+pub const FIRST_ELEMENT: usize = 356;
+
+pub const ELEMENT_WORDS: usize = 8;
 
 // The most records of each list.
 pub const MOST_CATEGORIES: u64 = 16;
@@ -55,7 +68,7 @@ pub fn read_category(book: &[u64], place: usize) -> Category
     requires { ⌜ (bookLength ≤ length (now book)) × (place < mostCategories) ⌝ }
     ensures { λ r. ⌜ r ≡ categoryAt (now (book .entry)) place ⌝ }
 {
-    let at = 4 + 2 * place;
+    let at = FIRST_CATEGORY + CATEGORY_WORDS * place;
     Category {
         kind: book[at],
         closed: book[at + 1],
@@ -66,7 +79,7 @@ pub fn read_entry(book: &[u64], place: usize) -> Entry
     requires { ⌜ (bookLength ≤ length (now book)) × (place < mostEntries) ⌝ }
     ensures { λ r. ⌜ r ≡ entryAt (now (book .entry)) place ⌝ }
 {
-    let at = 36 + 5 * place;
+    let at = FIRST_ENTRY + ENTRY_WORDS * place;
     Entry {
         category: book[at],
         group: book[at + 1],
@@ -80,7 +93,7 @@ pub fn read_element(book: &[u64], place: usize) -> Element
     requires { ⌜ (bookLength ≤ length (now book)) × (place < mostElements) ⌝ }
     ensures { λ r. ⌜ r ≡ elementAt (now (book .entry)) place ⌝ }
 {
-    let at = 356 + 8 * place;
+    let at = FIRST_ELEMENT + ELEMENT_WORDS * place;
     Element {
         category: book[at],
         chain: book[at + 1],

@@ -1,12 +1,12 @@
 // The test of soundness, ground 1: it looks through every record of every list and stops at the first
 // that breaks a rule.
+ghost use mathlib.Core.Bool.{true};
 ghost use mathlib.Core.Path.{_≡_};
-ghost use mathlib.Core.Bool.{true, _&&_};
-ghost use Prim.Native.Nat.{_+_, _<_};
-ghost use Rattle.book_words.specs.Book.{mostCategories, mostEntries, mostElements, entryAt, elementAt};
+ghost use Prim.Native.Nat.{_<_};
+ghost use Rattle.book_words.specs.Book.{numberedCategory, numberedEntry, mostEntries, entryAt, mostElements, elementAt, mostCategories};
 ghost use Rattle.book_words.specs.Measures.{isCode};
-ghost use Rattle.book_words.specs.Soundness.{allBelow, headerFine, categoryFine, entrySuits, entryFine, measured as measuredFor, quotedSuits, sharesWait, elementSuits, elementFine, sumsFine, sharesFine, sound};
-ghost use Rattle.book_words.specs.Parts.{Counted, Limited, countIn, recordFine, numberedCategory, numberedEntry};
+ghost use Rattle.book_words.specs.Parts.{CountsWithin, Limited, countIn, recordFine};
+ghost use Rattle.book_words.specs.Soundness.{sound, headerFine, sumsFine, allBelow, categoryFine, entryFine, entrySuits, elementFine, quotedSuits, elementSuits, measured as measuredFor, sharesWait, sharesFine};
 use crate::measures;
 use crate::records;
 use crate::records::Category;
@@ -70,7 +70,7 @@ fn header_fine(book: &[u64]) -> bool
 
 // The sums are within the limits of refusal 10.
 fn sums_fine(book: &[u64]) -> bool
-    requires { ⌜ Counted (now book) ⌝ }
+    requires { ⌜ CountsWithin (now book) ⌝ }
     ensures { λ r. ⌜ r ≡ sumsFine (now (book .entry)) ⌝ }
 {
     let sum = totals::emitted(book);
@@ -79,57 +79,57 @@ fn sums_fine(book: &[u64]) -> bool
         & (totals::activities(book) <= totals::MOST_ACTIVITY)
 }
 
-// Every record of every table keeps the rules.
+// Every record of every list keeps the rules.
 fn records_fine(book: &[u64]) -> bool
-    requires { ⌜ Counted (now book) ⌝ }
+    requires { ⌜ CountsWithin (now book) ⌝ }
     requires { ⌜ Limited (now book) ⌝ }
     ensures { λ r. ⌜ r ≡ allBelow 4 (λ t. allBelow (countIn (now (book .entry)) t) (recordFine (now (book .entry)) t)) ⌝ }
 {
     let mut good = true;
-    let mut table = 0;
-    'tables: while table < 4 {
-        let count = count_in(book, table);
+    let mut list = 0;
+    'lists: while list < 4 {
+        let count = count_in(book, list);
         let mut place = 0;
         while place < count {
-            if !record_fine(book, table, place) {
+            if !record_fine(book, list, place) {
                 good = false;
-                break 'tables;
+                break 'lists;
             }
             place += 1;
         }
-        table += 1;
+        list += 1;
     }
     good
 }
 
-// How many records a table has: 0 categories, 1 entries, 2 elements, 3 closings.
-fn count_in(book: &[u64], table: u64) -> usize
-    requires { ⌜ Counted (now book) ⌝ }
-    ensures { λ r. ⌜ r ≡ countIn (now (book .entry)) table ⌝ }
+// How many records a list has: 0 categories, 1 entries, 2 elements, 3 closings.
+fn count_in(book: &[u64], list: u64) -> usize
+    requires { ⌜ CountsWithin (now book) ⌝ }
+    ensures { λ r. ⌜ r ≡ countIn (now (book .entry)) list ⌝ }
 {
-    if table == 1 {
+    if list == 1 {
         return book[records::ENTRIES] as usize;
     }
-    if table == 2 {
+    if list == 2 {
         return book[records::ELEMENTS] as usize;
     }
     book[records::CATEGORIES] as usize
 }
 
-// The record at this place of a table keeps its rules.
-fn record_fine(book: &[u64], table: u64, place: usize) -> bool
-    requires { ⌜ Counted (now book) ⌝ }
+// The record at this place of a list keeps its rules.
+fn record_fine(book: &[u64], list: u64, place: usize) -> bool
+    requires { ⌜ CountsWithin (now book) ⌝ }
     requires { ⌜ Limited (now book) ⌝ }
-    requires { ⌜ place < countIn (now book) table ⌝ }
-    ensures { λ r. ⌜ r ≡ recordFine (now (book .entry)) table place ⌝ }
+    requires { ⌜ place < countIn (now book) list ⌝ }
+    ensures { λ r. ⌜ r ≡ recordFine (now (book .entry)) list place ⌝ }
 {
-    if table == 0 {
+    if list == 0 {
         return category_fine(records::read_category(book, place));
     }
-    if table == 1 {
+    if list == 1 {
         return entry_fine(book, place);
     }
-    if table == 2 {
+    if list == 2 {
         return element_fine(book, place);
     }
     shares_fine(book, place)
@@ -142,7 +142,7 @@ fn category_fine(r: Category) -> bool
 }
 
 fn entry_fine(book: &[u64], place: usize) -> bool
-    requires { ⌜ Counted (now book) ⌝ }
+    requires { ⌜ CountsWithin (now book) ⌝ }
     requires { ⌜ place < mostEntries ⌝ }
     ensures { λ b. ⌜ b ≡ entryFine (now (book .entry)) (entryAt (now (book .entry)) place) ⌝ }
 {
@@ -165,7 +165,7 @@ fn entry_suits(category: Category, r: Entry) -> bool
 }
 
 fn element_fine(book: &[u64], place: usize) -> bool
-    requires { ⌜ Counted (now book) ⌝ }
+    requires { ⌜ CountsWithin (now book) ⌝ }
     requires { ⌜ place < mostElements ⌝ }
     ensures { λ b. ⌜ b ≡ elementFine (now (book .entry)) (elementAt (now (book .entry)) place) ⌝ }
 {
@@ -224,7 +224,7 @@ fn shares_wait(category: Category, r: Element) -> bool
 
 // In a closed category the shares sum to the unstruck entries.
 fn shares_fine(book: &[u64], place: usize) -> bool
-    requires { ⌜ Counted (now book) ⌝ }
+    requires { ⌜ CountsWithin (now book) ⌝ }
     requires { ⌜ Limited (now book) ⌝ }
     requires { ⌜ place < mostCategories ⌝ }
     ensures { λ b. ⌜ b ≡ sharesFine (now (book .entry)) place ⌝ }

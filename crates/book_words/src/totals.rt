@@ -1,14 +1,12 @@
 // The sums of ground 10 and of soundness. A sum stops at 10^18 + 1, where it has passed every limit.
+ghost use mathlib.Core.Bool.{cond, true};
 ghost use mathlib.Core.Path.{_≡_};
-ghost use mathlib.Core.Bool.{true, cond};
-ghost use Prim.Native.Nat.{_+_, _*_, _≤_};
+ghost use Prim.Native.Nat.{_+_, _*_};
 ghost use lib.Dec.{eqb};
-ghost use Rattle.apportion.specs.Dividing.{largest};
-ghost use Rattle.book_words.specs.Book.{entryAt, elementAt};
-ghost use Rattle.book_words.specs.Measures.{counted as countedOf};
-ghost use Rattle.book_words.specs.Totals.{capped, sideOf, bySides, emitted as emittedBy, allUnstruck, unstruckOf, sharesOf, passesAmounts, passesActivity, activities as activitiesIn, unstruck as unstruckBy, shareOf};
+ghost use Rattle.book_words.specs.Measures.{massActivity};
+ghost use Rattle.book_words.specs.Parts.{bySides, sideOf, CountsWithin};
 ghost use Rattle.book_words.specs.Soundness.{sound};
-ghost use Rattle.book_words.specs.Parts.{Counted};
+ghost use Rattle.book_words.specs.Totals.{capped, unstruck as unstruckBy, allUnstruck, unstruckOf, shareOf, sharesOf, emitted as emittedBy, activities as activitiesIn, passesAmounts, passesActivity};
 use crate::records;
 use crate::records::Element;
 use crate::records::Entry;
@@ -79,7 +77,7 @@ fn unstruck(e: Entry) -> Amounts
 
 // The unstruck entries.
 fn all_unstruck(book: &[u64]) -> Amounts
-    requires { ⌜ Counted (now book) ⌝ }
+    requires { ⌜ CountsWithin (now book) ⌝ }
     ensures { λ r. ⌜ r ≡ bySides (λ s. capped (allUnstruck (now (book .entry)) s)) ⌝ }
 {
     let count = book[records::ENTRIES] as usize;
@@ -110,7 +108,7 @@ fn unstruck_in(category: u64, e: Entry) -> Amounts
 
 // The unstruck entries of a category.
 pub fn unstruck_of(book: &[u64], category: u64) -> Amounts
-    requires { ⌜ Counted (now book) ⌝ }
+    requires { ⌜ CountsWithin (now book) ⌝ }
     ensures { λ r. ⌜ r ≡ bySides (λ s. capped (unstruckOf (now (book .entry)) category s)) ⌝ }
 {
     let count = book[records::ENTRIES] as usize;
@@ -144,7 +142,7 @@ fn share_in(category: u64, e: Element) -> Amounts
 
 // The shares in a category, or the quoted shares for category 0.
 pub fn shares_of(book: &[u64], category: u64) -> Amounts
-    requires { ⌜ Counted (now book) ⌝ }
+    requires { ⌜ CountsWithin (now book) ⌝ }
     ensures { λ r. ⌜ r ≡ bySides (λ s. capped (sharesOf (now (book .entry)) category s)) ⌝ }
 {
     let count = book[records::ELEMENTS] as usize;
@@ -162,15 +160,15 @@ pub fn shares_of(book: &[u64], category: u64) -> Amounts
 
 // Unstruck entries plus quoted shares.
 pub fn emitted(book: &[u64]) -> Amounts
-    requires { ⌜ Counted (now book) ⌝ }
+    requires { ⌜ CountsWithin (now book) ⌝ }
     ensures { λ r. ⌜ r ≡ bySides (λ s. capped (emittedBy (now (book .entry)) s)) ⌝ }
 {
     add_sides(all_unstruck(book), shares_of(book, 0))
 }
 
 // An element's activity, passengers as in P.
-fn counted(e: Element) -> u64
-    ensures { λ r. ⌜ r ≡ capped (countedOf e) ⌝ }
+fn mass_activity(e: Element) -> u64
+    ensures { λ r. ⌜ r ≡ capped (massActivity e) ⌝ }
 {
     if e.code <= 2 {
         return add(0, e.activity);
@@ -180,14 +178,14 @@ fn counted(e: Element) -> u64
 
 // The activity over all elements.
 pub fn activities(book: &[u64]) -> u64
-    requires { ⌜ Counted (now book) ⌝ }
+    requires { ⌜ CountsWithin (now book) ⌝ }
     ensures { λ r. ⌜ r ≡ capped (activitiesIn (now (book .entry))) ⌝ }
 {
     let count = book[records::ELEMENTS] as usize;
     let mut sum = 0;
     let mut place = 0;
     while place < count {
-        sum = add(sum, counted(records::read_element(book, place)));
+        sum = add(sum, mass_activity(records::read_element(book, place)));
         place += 1;
     }
     sum
@@ -207,5 +205,5 @@ pub fn passes_activity(book: &[u64], e: Element) -> bool
     requires { ⌜ sound (now book) ≡ true ⌝ }
     ensures { λ r. ⌜ r ≡ passesActivity (now (book .entry)) e ⌝ }
 {
-    MOST_ACTIVITY < activities(book) + counted(e)
+    MOST_ACTIVITY < activities(book) + mass_activity(e)
 }

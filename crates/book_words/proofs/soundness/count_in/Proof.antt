@@ -1,4 +1,4 @@
--- `book_words::soundness::count_in` meets its contract: a table by its number. Assumes nothing.
+-- `book_words::soundness::count_in` meets its contract: a list by its number. Assumes nothing.
 use mathlib.Core.List.{List}
 use mathlib.Core.Path.{_≡_, refl}
 use Prim.Native.Nat.{ℕ, zero, suc}
@@ -8,7 +8,7 @@ use Rattle.book_words.specs.Parts.{countIn}
 use Rattle.book_words.proofs.soundness.count_in.Statement.{statement}
 use Rattle.book_words.proofs.soundness.count_in.Tie as tie
 
-other : (ws : List ℕ) (table : ℕ) → (table ≡ 1 → ⊥) → (table ≡ 2 → ⊥) → categories ws ≡ countIn ws table
+other : (ws : List ℕ) (list : ℕ) → (list ≡ 1 → ⊥) → (list ≡ 2 → ⊥) → categories ws ≡ countIn ws list
 other ws zero one two = refl
 other ws (suc zero) one two = absurd (one refl)
 other ws (suc (suc zero)) one two = absurd (two refl)
@@ -30,7 +30,7 @@ shared-slice-read-result-3 : tie.Need-shared-slice-read-result-3
 shared-slice-read-result-3 c = search needs
 
 returns-3 : tie.Need-returns-3
-returns-3 c = other _ (c .before .before .before .args .table) (c .before .before .if1 .left) (c .before .if2 .left)
+returns-3 c = other _ (c .before .before .before .args .list) (c .before .before .if1 .left) (c .before .if2 .left)
 
 pub count-in-spec : {M : Type 1} → statement M
 count-in-spec =

@@ -7,7 +7,7 @@ use borrow.Author.Needs.{needs}
 use Rattle.apportion.specs.Places.{at}
 use Rattle.book_words.specs.declared.records.Element.{Element}
 use Rattle.book_words.specs.Book.{elementAt, elements}
-use Rattle.book_words.specs.Measures.{counted}
+use Rattle.book_words.specs.Measures.{massActivity}
 use Rattle.book_words.specs.Totals.{capped, activities}
 use Rattle.book_words.proofs.Adding.{Adding, adding-start, adding-next, adding-done}
 use Rattle.book_words.proofs.Capping.{capped-more}
@@ -15,7 +15,7 @@ use Rattle.book_words.proofs.totals.activities.Statement.{statement}
 use Rattle.book_words.proofs.totals.activities.Tie as tie
 
 abbrev Inv-loop : tie.InvT-loop
-Inv-loop book count sum₀ place₀ sum place = Adding count place sum (λ p. counted (elementAt book p)) × (count ≡ elements book)
+Inv-loop book count sum₀ place₀ sum place = Adding count place sum (λ p. massActivity (elementAt book p)) × (count ≡ elements book)
 
 abbrev μ-loop : tie.MeasureT-loop
 μ-loop book count sum₀ place₀ sum place = count - place
@@ -29,8 +29,8 @@ loop-holds c = (adding-start _ _, refl)
 read-element-requires : tie.Need-read-element-requires Inv-loop μ-loop
 read-element-requires c κs = search needs
 
-counted-requires : tie.Need-counted-requires Inv-loop μ-loop
-counted-requires c κs = search needs
+mass-activity-requires : tie.Need-mass-activity-requires Inv-loop μ-loop
+mass-activity-requires c κs = search needs
 
 add-requires : tie.Need-add-requires Inv-loop μ-loop
 add-requires c κs = search needs
@@ -43,7 +43,7 @@ loop-less c = omega arith
 
 loop-again : tie.Need-loop-again Inv-loop μ-loop
 loop-again c =
-    let step = c .add .ensures ∙ ap (λ (n : ℕ). capped (c .before .before .before .before .loop .sum + n)) (c .before .counted .ensures ∙ ap (λ (e : Element). capped (counted e)) (c .before .before .read-element .ensures)) in
+    let step = c .add .ensures ∙ ap (λ (n : ℕ). capped (c .before .before .before .before .loop .sum + n)) (c .before .mass-activity .ensures ∙ ap (λ (e : Element). capped (massActivity e)) (c .before .before .read-element .ensures)) in
     (adding-next _ (c .before .before .before .before .loop .inv .0) (c .before .before .before .loop-test .taken) (step ∙ capped-more (c .before .before .before .before .loop .sum) _), c .before .before .before .before .loop .inv .1)
 
 returns : tie.Need-returns Inv-loop μ-loop
@@ -59,7 +59,7 @@ activities-spec =
     shared-slice-read-count
     loop-holds
     read-element-requires
-    counted-requires
+    mass-activity-requires
     add-requires
     add-place
     loop-less

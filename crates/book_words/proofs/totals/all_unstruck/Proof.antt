@@ -8,7 +8,8 @@ use Rattle.apportion.specs.Places.{at}
 use Rattle.book_words.specs.declared.records.Entry.{Entry}
 use Rattle.book_words.specs.declared.totals.Amounts.{Amounts}
 use Rattle.book_words.specs.Book.{entryAt, entries}
-use Rattle.book_words.specs.Totals.{unstruck, bySides, capped, sideOf, allUnstruck}
+use Rattle.book_words.specs.Parts.{bySides, sideOf}
+use Rattle.book_words.specs.Totals.{unstruck, capped, allUnstruck}
 use Rattle.book_words.proofs.Adding.{AddingSides, sides-start, sides-next, sides-done}
 use Rattle.book_words.proofs.totals.all_unstruck.Statement.{statement}
 use Rattle.book_words.proofs.totals.all_unstruck.Tie as tie

@@ -10,7 +10,8 @@ use Rattle.apportion.specs.Places.{at}
 use Rattle.book_words.specs.declared.records.Element.{Element}
 use Rattle.book_words.specs.declared.totals.Amounts.{Amounts}
 use Rattle.book_words.specs.Book.{elementAt, elements}
-use Rattle.book_words.specs.Totals.{shareOf, bySides, capped, sideOf, sharesOf}
+use Rattle.book_words.specs.Parts.{bySides, sideOf}
+use Rattle.book_words.specs.Totals.{shareOf, capped, sharesOf}
 use Rattle.book_words.proofs.Adding.{AddingSides, sides-start, sides-next, sides-done}
 use Rattle.book_words.proofs.totals.shares_of.Statement.{statement}
 use Rattle.book_words.proofs.totals.shares_of.Tie as tie
