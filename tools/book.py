@@ -311,28 +311,33 @@ def book_for_call(words):
     return sound_book(words)
 
 
+def with_ground_1(grounds):
+    """Ground 1, and past it the call's own grounds on the sound book."""
+    def all_grounds(words, *arguments):
+        book = book_for_call(words)
+        if book is None:
+            yield BAD_BOOK
+        else:
+            yield from grounds(book, *arguments)
+    return all_grounds
+
+
 def grounds_of_fresh(words):
     if len(words) < LENGTH:
         yield BAD_BOOK
 
 
-def grounds_of_open(words, kind):
-    book = book_for_call(words)
-    if book is None:
-        yield BAD_BOOK
-        return
+@with_ground_1
+def grounds_of_open(book, kind):
     if kind not in KINDS:
         yield NO_SUCH_VALUE
     if len(book.categories) == CATEGORIES.most:
         yield FULL
 
 
-def grounds_of_post(words, category, group, quantity, operation_factor,
+@with_ground_1
+def grounds_of_post(book, category, group, quantity, operation_factor,
                     provision_factor):
-    book = book_for_call(words)
-    if book is None:
-        yield BAD_BOOK
-        return
     if not book.has_category(category):
         yield NO_SUCH_NUMBER
     if group not in GROUPS:
@@ -352,11 +357,8 @@ def grounds_of_post(words, category, group, quantity, operation_factor,
         yield OVER_LIMIT
 
 
-def grounds_of_strike(words, entry):
-    book = book_for_call(words)
-    if book is None:
-        yield BAD_BOOK
-        return
+@with_ground_1
+def grounds_of_strike(book, entry):
     if not 1 <= entry <= len(book.entries):
         yield NO_SUCH_NUMBER
         return
@@ -367,11 +369,8 @@ def grounds_of_strike(words, entry):
         yield CLOSED_OR_STRUCK
 
 
-def grounds_of_enrol(words, category, chain, code, amount, distance):
-    book = book_for_call(words)
-    if book is None:
-        yield BAD_BOOK
-        return
+@with_ground_1
+def grounds_of_enrol(book, category, chain, code, amount, distance):
     kind = book.kind(category)
     if not book.has_category(category):
         yield NO_SUCH_NUMBER
@@ -391,12 +390,9 @@ def grounds_of_enrol(words, category, chain, code, amount, distance):
         yield OVER_LIMIT
 
 
-def grounds_of_quote(words, chain, adjust, mass, distance,
+@with_ground_1
+def grounds_of_quote(book, chain, adjust, mass, distance,
                      operation_intensity, provision_intensity):
-    book = book_for_call(words)
-    if book is None:
-        yield BAD_BOOK
-        return
     if not (chain in CHAINS and adjust in FLAGS):
         yield NO_SUCH_VALUE
     if not (mass in MASSES and distance in DISTANCES

@@ -23,7 +23,6 @@ use Rattle.book_words.proofs.Ranges.{between-low, between-high}
 use Rattle.book_words.proofs.Rules.{entry-inside, entry-numbered, element-quoted, element-inside, element-numbered}
 use Rattle.book_words.proofs.Views.{struckEntry, EntryStruck, CategoryAdded, EntryAdded, ElementAdded}
 use Rattle.book_words.proofs.Wholes.{Whole}
-use Rattle.book.proofs.Accepting.{enrolled}
 
 -- the categories that were there are there still, and the same
 pub record Carried (ws ws′ : List ℕ) : Type 0 where

@@ -6,7 +6,6 @@ use Prim.Native.Nat.{_-_, ℕ, zero, suc, _≤_, _<_}
 use native.Mathlib.Omega.{arith}
 use lib.Dec.{eqb}
 use borrow.Author.Tests.{not-false, ne-eqb, eq-eqb}
-use Rattle.apportion.specs.Dividing.{refusal}
 use Rattle.apportion.specs.Grounds.{accepted}
 use Rattle.book_words.specs.Book.{numberedCategory, categories, categoryOf, numberedEntry, entries, entryAt, mostEntries}
 use Rattle.book_words.specs.Measures.{between, massActivity}

@@ -5,7 +5,6 @@ use mathlib.Core.List.{List, _++_, _∷_, []}
 use Prim.Native.Nat.{ℕ, _+_, _*_}
 use lib.Dec.{ltb, leb, eqb}
 use lib.ListN.{drop, length, set}
-use Rattle.apportion.specs.Dividing.{refusal}
 use Rattle.apportion.specs.Grounds.{accepted, Ground, firstOf}
 use Rattle.apportion.specs.Places.{listBelow}
 use Rattle.book_words.specs.Book.{bookLength, mark, mostCategories, categories, addCategory, categoryOf, mostEntries, entries, addEntry, entryOf, strikeEntry, mostElements, elements, addElement}
@@ -72,7 +71,8 @@ postGrounds ws category group quantity operationFactor provisionFactor =
     ∷ []
 
 unfoldable pub postRefusal : List ℕ → ℕ → ℕ → ℕ → ℕ → ℕ → ℕ
-postRefusal ws category group quantity operationFactor provisionFactor = firstOf (postGrounds ws category group quantity operationFactor provisionFactor)
+postRefusal ws category group quantity operationFactor provisionFactor =
+    firstOf (postGrounds ws category group quantity operationFactor provisionFactor)
 
 unfoldable pub postReply : List ℕ → ℕ → ℕ → ℕ → ℕ → ℕ → Reply
 postReply ws category group quantity operationFactor provisionFactor =
@@ -94,20 +94,6 @@ postBook ws category group quantity operationFactor provisionFactor =
     (postRefusal ws category group quantity operationFactor provisionFactor)
     (addEntry ws (postedEntry category group quantity operationFactor provisionFactor))
     ws
-
--- "**Strike** (entry) sets its struck word; the record still counts towards 64."
-abbrev pub strikeGrounds : List ℕ → ℕ → List Ground
-strikeGrounds ws entry =
-    (1, not (sound ws))
-    ∷ (2, unnumbered (entries ws) entry)
-    ∷ (4, isClosed ws (entryOf ws entry .category) || not (eqb (entryOf ws entry .struck) 0))
-    ∷ []
-
-unfoldable pub strikeRefusal : List ℕ → ℕ → ℕ
-strikeRefusal ws entry = firstOf (strikeGrounds ws entry)
-
-unfoldable pub strikeBook : List ℕ → ℕ → List ℕ
-strikeBook ws entry = accepted (strikeRefusal ws entry) (strikeEntry ws entry) ws
 
 -- "**enrol** (category, chain, code, amount, distance)"
 abbrev pub enrolledElement : List ℕ → ℕ → ℕ → ℕ → ℕ → ℕ → Element
@@ -136,7 +122,8 @@ enrolGrounds ws category chain code amount distance =
     ∷ []
 
 unfoldable pub enrolRefusal : List ℕ → ℕ → ℕ → ℕ → ℕ → ℕ → ℕ
-enrolRefusal ws category chain code amount distance = firstOf (enrolGrounds ws category chain code amount distance)
+enrolRefusal ws category chain code amount distance =
+    firstOf (enrolGrounds ws category chain code amount distance)
 
 unfoldable pub enrolReply : List ℕ → ℕ → ℕ → ℕ → ℕ → ℕ → Reply
 enrolReply ws category chain code amount distance =
@@ -148,6 +135,20 @@ enrolBook ws category chain code amount distance =
     (enrolRefusal ws category chain code amount distance)
     (addElement ws (enrolledElement ws category chain code amount distance))
     ws
+
+-- "**Strike** (entry) sets its struck word; the record still counts towards 64."
+abbrev pub strikeGrounds : List ℕ → ℕ → List Ground
+strikeGrounds ws entry =
+    (1, not (sound ws))
+    ∷ (2, unnumbered (entries ws) entry)
+    ∷ (4, isClosed ws (entryOf ws entry .category) || not (eqb (entryOf ws entry .struck) 0))
+    ∷ []
+
+unfoldable pub strikeRefusal : List ℕ → ℕ → ℕ
+strikeRefusal ws entry = firstOf (strikeGrounds ws entry)
+
+unfoldable pub strikeBook : List ℕ → ℕ → List ℕ
+strikeBook ws entry = accepted (strikeRefusal ws entry) (strikeEntry ws entry) ws
 
 -- "D is the distance, or with adjust 1 the distance plus 95,000 (the air default, Annex A.3.2)."
 abbrev pub adjusted : ℕ → ℕ → ℕ
@@ -187,7 +188,8 @@ quoteGrounds ws chain adjust mass distance operationIntensity provisionIntensity
     ∷ []
 
 unfoldable pub quoteRefusal : List ℕ → ℕ → ℕ → ℕ → ℕ → ℕ → ℕ → ℕ
-quoteRefusal ws chain adjust mass distance operationIntensity provisionIntensity = firstOf (quoteGrounds ws chain adjust mass distance operationIntensity provisionIntensity)
+quoteRefusal ws chain adjust mass distance operationIntensity provisionIntensity =
+    firstOf (quoteGrounds ws chain adjust mass distance operationIntensity provisionIntensity)
 
 unfoldable pub quoteReply : List ℕ → ℕ → ℕ → ℕ → ℕ → ℕ → ℕ → Reply
 quoteReply ws chain adjust mass distance operationIntensity provisionIntensity =

@@ -5,7 +5,6 @@ use Prim.Native.Nat.{ℕ, _-_, _<_, _≤_, _+_}
 use native.Mathlib.Omega.{arith}
 use lib.ListN.{length, set, length-set, drop}
 use lib.Seq.{getD-set-other, getD-set-same, getD-append-add, getD-drop}
-use Rattle.apportion.specs.Dividing.{before}
 use Rattle.apportion.specs.Places.{at, listBelow}
 use Rattle.book_words.specs.Book.{puts}
 use Rattle.apportion.proofs.Lists.{filled, list-length}
