@@ -3,9 +3,11 @@
 import random
 
 import call_cases
+import closing_cases
+import intensity_cases
 import random_cases
 import soundness_cases
-from book_writer import BookCases
+from book_writer import SORTS, BookCases
 
 SEED = 2404
 
@@ -17,15 +19,21 @@ ANSWERS = {
     "strike": (0, 1, 2, 4),
     "enrol": (0, 1, 2, 3, 4, 6, 7, 8, 10),
     "quote": (0, 1, 3, 7, 8, 10),
+    "close": (0, 1, 2, 4, 9),
+    "intensity": (0, 1, 2, 3, 5, 9, 10),
 }
 
 # Pairs of grounds that cannot hold at once: a category that is not there is
-# neither closed nor of a kind, an entry that is not there not struck, and a
-# group that is none of its values is not 1 or 2.
+# neither open nor closed nor of a kind and has no sums, an entry that is not
+# there is not struck, a group that is none of its values is not 1 or 2, a
+# code that is none of its values wants no F, S or C, and an intensity without
+# its F, S or C has no result.
 NEVER_BOTH = {
     "post": ((2, 4), (2, 6), (3, 6)),
     "strike": ((2, 4),),
     "enrol": ((2, 4), (2, 6)),
+    "close": ((2, 4), (2, 9)),
+    "intensity": ((2, 5), (2, 9), (2, 10), (3, 9), (3, 10), (9, 10)),
 }
 
 
@@ -37,13 +45,25 @@ def pairs_of_grounds():
             if one < other and (one, other) not in NEVER_BOTH.get(name, ())]
 
 
+def sorts_of_closings():
+    """Passengers alone have no groups."""
+    return [sort + more for sort in SORTS for more in ("", " with groups")
+            if sort + more != "passengers with groups"]
+
+
 def add(plain_cases):
     """Adds the cases of the book; what they tested, as counts."""
     cases = BookCases(plain_cases)
     rng = random.Random(SEED)
     call_cases.add(cases)
+    closing_cases.add(cases)
+    intensity_cases.add(cases)
     soundness_cases.add(cases, rng)
+    before = dict(cases.closings)
     random_cases.add(cases, rng)
+    for sort in sorts_of_closings():
+        if cases.closings.get(sort, 0) - before.get(sort, 0) < 5:
+            raise SystemExit("few random closings of sort: " + sort)
     # The cases reckoned by hand have the same outcome after all the others.
     call_cases.reckoned_by_hand(cases)
 

@@ -1,9 +1,9 @@
 """Adds calls of the book to the cases, and keeps count of their answers."""
 
 import book
-import calculation
+import closing
 import player
-from book import CATEGORIES, ELEMENTS, ENTRIES
+from book import CATEGORIES, ELEMENTS, ENTRIES, word
 
 LARGEST = 2 ** 64 - 1
 EMISSIONS = 10 ** 18     # the limits of ground 10
@@ -26,7 +26,30 @@ OPERATIONS = {
     "strike": player.STRIKE,
     "enrol": player.ENROL,
     "quote": player.QUOTE,
+    "close": player.CLOSE,
+    "intensity": player.INTENSITY,
 }
+
+# The sorts of closings; each may have something for a group too.
+SORTS = ("freight", "passengers", "both", "hub")
+
+
+def sort_of_closing(words, category):
+    """What a closed category has: elements, and groups with a B above 0."""
+    sums = closing.Sums(book.Book(words), category)
+    if sums.kind == book.HUB:
+        sort = "hub"
+    elif sums.F > 0 and sums.P > 0:
+        sort = "both"
+    else:
+        sort = "freight" if sums.F > 0 else "passengers"
+    groups = any(sums.B(group, amount) > 0
+                 for group in closing.COLD_GROUPS for amount in book.AMOUNTS)
+    return sort + " with groups" if groups else sort
+
+
+def count(counts, key):
+    counts[key] = counts.get(key, 0) + 1
 
 
 class BookCases:
@@ -34,8 +57,9 @@ class BookCases:
 
     def __init__(self, cases):
         self.cases = cases
-        self.answers = {}  # (call, refusal number) -> how many
-        self.pairs = {}    # (call, ground, later ground) -> how many
+        self.answers = {}   # (call, refusal number) -> how many
+        self.pairs = {}     # (call, ground, later ground) -> how many
+        self.closings = {}  # sort of accepted closing -> how many
 
     # Calls.
 
@@ -45,8 +69,9 @@ class BookCases:
         if gives is not None and numbers[0] != gives:
             raise AssertionError("%s%r gives %d, not %d"
                                  % (name, arguments, numbers[0], gives))
-        key = (name, numbers[0])
-        self.answers[key] = self.answers.get(key, 0) + 1
+        count(self.answers, (name, numbers[0]))
+        if name == "close" and numbers[0] == 0:
+            count(self.closings, sort_of_closing(self.words, arguments[0]))
         return numbers
 
     def fresh(self, gives=0):
@@ -67,6 +92,22 @@ class BookCases:
     def quote(self, *arguments, gives=0):
         return self.call("quote", *arguments, gives=gives)
 
+    def close(self, category, gives=0):
+        return self.call("close", category, gives=gives)
+
+    def intensity(self, category, code, gives=0, shows=None):
+        """`shows` is what the answer is known to be, None for unknown."""
+        numbers = self.call("intensity", category, code, gives=gives)
+        if shows is not None and numbers[1:] != list(shows):
+            raise AssertionError("intensity %d %d shows %r, not %r"
+                                 % (category, code, numbers[1:], shows))
+        return numbers
+
+    def intensities(self, category):
+        """All four, whatever each gives."""
+        for code in closing.INTENSITY_CODES:
+            self.intensity(category, code, gives=None)
+
     def new_book(self, *kinds):
         self.fresh()
         for kind in kinds:
@@ -78,8 +119,10 @@ class BookCases:
         self.open(3, gives=gives)
         self.post(1, 2, 3, 4, 5, gives=gives)
         self.strike(1, gives=gives)
-        self.enrol(1, 7, 0, 8, 9, gives=gives)
+        self.enrol(1, 7, 2, 8, 9, gives=gives)
         self.quote(10_000, 1, 11, 12, 13, 14, gives=gives)
+        self.close(1, gives=gives)
+        self.intensity(1, 2, gives=gives)
 
     # The array.
 
@@ -147,6 +190,17 @@ class BookCases:
         self.post(category, 0, part, operation // part, provision // part)
         self.post(category, 0, 1, operation % part, provision % part)
 
+    def post_amounts(self, category, group, operation, provision):
+        """One post or two that come to these amounts, up to 10^18."""
+        part = 10 ** 9
+        if max(operation, provision) >= part:
+            self.post(category, group, part, operation // part,
+                      provision // part)
+            operation, provision = operation % part, provision % part
+            if operation == provision == 0:
+                return
+        self.post(category, group, 1, operation, provision)
+
     def fill_activity(self, freight, hub, left):
         """Freight, then one element of a hub, that leave so much of 10^17."""
         mass = 10 ** 9
@@ -160,21 +214,15 @@ class BookCases:
 
     # A closed category.
 
-    def close(self, number):
-        """Writes the shares, by activity, and the closed word directly."""
-        old = book.Book(self.words)
-        unstruck = book.unstruck(old.entries_of(number))
-        places = [place for place, element in enumerate(old.elements, 1)
-                  if element.category == number]
-        weights = [old.elements[place - 1].activity for place in places]
-        for amount in book.AMOUNTS:
-            shares = calculation.shares_of(book.total(unstruck, amount),
-                                           weights)
-            for place, share in zip(places, shares):
-                self.poke(word(ELEMENTS, place, amount), share)
-        self.poke(word(CATEGORIES, number, "closed"), 1)
+    def poke_closed(self, category):
+        """Writes the closed word alone. No call closes a category without
+        elements; with nothing unstruck the book stays sound."""
+        self.poke(word(CATEGORIES, category, "closed"), 1)
 
-
-def word(listing, number, field):
-    """The index of a record's field."""
-    return book.place(listing, number) + listing.form._fields.index(field)
+    def shares_are(self, category, operation, provision):
+        """The shares of a category's elements, in their order."""
+        elements = book.Book(self.words).elements_of(category)
+        found = [[getattr(element, amount) for element in elements]
+                 for amount in book.AMOUNTS]
+        if found != [list(operation), list(provision)]:
+            raise AssertionError("the shares are %r" % found)

@@ -5,9 +5,10 @@ is meant to test.
 """
 
 import book
+import calls
 import player
 from book import CATEGORIES, ELEMENTS, ENTRIES
-from book_writer import FAR, FARTHEST, LARGEST
+from book_writer import FAR, FARTHEST, LARGEST, count
 
 
 # Before fresh, and the lent slice.
@@ -19,6 +20,8 @@ def before_fresh(cases):
     cases.strike(1, gives=1)
     cases.enrol(1, 1, 0, 1, 1, gives=1)
     cases.quote(1, 0, 1, 1, 1, 1, gives=1)
+    cases.close(1, gives=1)
+    cases.intensity(1, 0, gives=1)
     cases.poke(0, book.MARK)
     cases.is_sound()
     cases.poke(0, 0)
@@ -84,7 +87,8 @@ def unused_arguments(cases):
     for operation, *arguments in (
         (player.FRESH,), (player.OPEN, 3), (player.POST, 1, 0, 5, 6, 7),
         (player.STRIKE, 1), (player.ENROL, 1, 1, 100, 2, 3),
-        (player.QUOTE, 1, 1, 1, 1, 1, 1), (player.POKE, 2999, 8),
+        (player.QUOTE, 1, 1, 1, 1, 1, 1), (player.CLOSE, 1),
+        (player.INTENSITY, 1, 100), (player.POKE, 2999, 8),
         (player.LEND, 2404), (player.DUMP, 0, 40), (player.DUMP, 356, 17),
         (player.APPEND_WEIGHT, 3), (player.DIVIDE, 7, 1),
         (player.LEND, 3000), (player.DUMP, 0, 40), (player.DUMP, 2999, 1),
@@ -106,26 +110,40 @@ def reckoned_by_hand(cases):
     # "Quote 600000, adjust 1, 1000 kg, 905,000 m: 600,000,000,000."
     cases.quote(1, 1, 1000, 905_000, 600_000, 600_000)
     cases.dump(356, 16)
-    # The calls of the file that document 01 gives as an example, without
-    # its closing.
+    # The calls of the file that document 01 gives as an example.
     cases.new_book(1)
     cases.post(1, 0, 12_000_000, 3_220_000, 560_000)
     cases.enrol(1, 7, 0, 1000, 300_000)
     cases.enrol(1, 4, 0, 3000, 300_000)
     cases.quote(7, 0, 1000, 500_000, 62_000, 10_000)
     cases.dump_book()
-    # The records of two closings.
+    cases.close(1)
+    cases.shares_are(1, (9_660_000_000_000, 28_980_000_000_000),
+                     (1_680_000_000_000, 5_040_000_000_000))
+    cases.intensity(1, 0, shows=(32_200_000, 5_600_000))
+    cases.dump_book()
+    # "Kind 3, A 9, freight activity 100, one head each of codes 100 and 400
+    # over 1 m: 3, 1, 5."
     cases.new_book(3)
     cases.post(1, 0, 1, 9, 0)
     cases.enrol(1, 1, 0, 100, 1)
     cases.enrol(1, 1, 100, 1, 1)
     cases.enrol(1, 1, 400, 1, 1)
+    cases.close(1)
+    cases.shares_are(1, (3, 1, 5), (0, 0, 0))
+    cases.intensity(1, 0, shows=(30, 0))
+    cases.intensity(1, 100, shows=(1, 0))
     cases.dump_book()
+    # "A 8, B1 5, ambient 100, chilled 300: 2 and 11."
     cases.new_book(1)
     cases.post(1, 0, 1, 8, 0)
     cases.post(1, 1, 1, 5, 0)
     cases.enrol(1, 1, 0, 100, 1)
     cases.enrol(1, 1, 1, 300, 1)
+    cases.close(1)
+    cases.shares_are(1, (2, 11), (0, 0))
+    cases.intensity(1, 0, shows=(20, 0))
+    cases.intensity(1, 1, shows=(37, 0))
     cases.dump_book()
     # "Weight 1000 passes, 1001 is 3."
     cases.new_book(2)
@@ -409,7 +427,7 @@ def enrol_and_quote(cases, count):
 
 def in_order(cases, name, arguments, faults):
     """A call for which exactly the grounds `faults` hold."""
-    call = book.CALLS[name]
+    call = calls.CALLS[name]
     grounds = list(call.grounds(cases.words, *arguments))
     if grounds != sorted(faults):
         raise AssertionError("%s%r has the grounds %r, not %r"
@@ -432,8 +450,7 @@ def in_order_after_1(cases, name, arguments, faults):
 def note_pairs(cases, name, grounds):
     for place, ground in enumerate(grounds):
         for later in grounds[place + 1:]:
-            key = (name, ground, later)
-            cases.pairs[key] = cases.pairs.get(key, 0) + 1
+            count(cases.pairs, (name, ground, later))
 
 
 def try_in_order(cases, name, combinations):
@@ -468,6 +485,7 @@ def order_of_strike(cases):
     cases.post(2, 0, 1, 1, 1)
     cases.strike(2)
     cases.strike(4)
+    cases.enrol(2, 1, 100, 1, 1)
     cases.close(2)
     # Of an open category and struck; of a closed one; both.
     try_in_order(cases, "strike", [
@@ -480,6 +498,8 @@ def order_of_strike(cases):
 def order_of_post(cases):
     """9 µg are left of 10^18, and one or no entry."""
     cases.new_book(3, 2, 2, 1)
+    cases.enrol(3, 1, 100, 1, 1)
+    cases.enrol(4, 1, 0, 1, 1)
     cases.close(3)
     cases.close(4)
     cases.fill_emissions(1, 9, 9)
@@ -510,10 +530,12 @@ def order_of_post(cases):
 def order_of_enrol_and_quote(cases):
     """150 are left of 10^17, 9 µg of 10^18, and one or no element."""
     cases.new_book(1, 2, 3, 4, 2, 1)
+    cases.enrol(5, 1, 100, 1, 1)
+    cases.enrol(6, 1, 0, 1, 1)
     cases.close(5)
     cases.close(6)
     cases.fill_emissions(3, 9, 9)
-    for number in range(251):
+    for number in range(249):
         cases.enrol(4, 1, 0, 1, 0)
     cases.fill_activity(1, 4, 150)
     # Category, the grounds that it brings, its kind.

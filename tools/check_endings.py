@@ -38,13 +38,16 @@ def dump(first, count):
     return record(player.DUMP, first, count)
 
 
-# A book with a record of each sort, and its words.
+# A book with a record of each sort whose category is closed, its words, and
+# an intensity.
 BOOK = (
     record(player.FRESH) + record(player.OPEN, 3)
     + record(player.POST, 1, 1, 5, 6, 7) + record(player.STRIKE, 1)
+    + record(player.POST, 1, 0, 5, 6, 7)
     + record(player.ENROL, 1, 1, 100, 2, 3)
-    + record(player.QUOTE, 1, 1, 1000, 1, 2, 3)
-    + dump(0, 42) + dump(356, 17)
+    + record(player.ENROL, 1, 1, 0, 4, 5)
+    + record(player.QUOTE, 1, 1, 1000, 1, 2, 3) + record(player.CLOSE, 1)
+    + dump(0, 47) + dump(356, 25) + record(player.INTENSITY, 1, 100)
 )
 
 
@@ -71,7 +74,7 @@ def endings():
     add("a book", BOOK)
     add("a book twice", BOOK + THREE + BOOK)
     add("weights, a book, a division",
-        weight(1) * 3 + BOOK + division(10, 3) + dump(0, 42))
+        weight(1) * 3 + BOOK + division(10, 3) + dump(0, 47))
     add("the last word written",
         BOOK + record(player.POKE, 2999, LARGEST) + dump(2999, 1))
     for lent in (0, 1, 2403, 2404, 3000):
@@ -117,6 +120,13 @@ def endings():
         add("operation %d first" % number, record(number, 1, 1) + THREE)
         add("operation %d after a division" % number,
             THREE + record(number) + THREE)
+    # 8 and 15 are none yet; 7 and 9 are calls.
+    for number in (8, 15):
+        add("operation %d after a book" % number,
+            BOOK + record(number, 1) + BOOK)
+    add("a second closing", BOOK + record(player.CLOSE, 1) + dump(0, 47))
+    add("a closing and an intensity of none",
+        BOOK + record(player.CLOSE, 2) + record(player.INTENSITY, 2, 0))
     add("unknown operation after a weight",
         weight(1) + record(99) + division(10, 1))
     add("two unknown operations", THREE + record(0) + record(99))
@@ -144,9 +154,10 @@ def endings():
         add("%d bytes after weights" % left,
             weight(1) * 3 + division(10, 3)[:left])
         add("%d bytes of a dump after a book" % left,
-            BOOK + dump(0, 42)[:left])
-        add("%d bytes of a call after a book" % left,
-            BOOK + record(player.OPEN, 1)[:left])
+            BOOK + dump(0, 47)[:left])
+        for operation in (player.OPEN, player.CLOSE, player.INTENSITY):
+            add("%d bytes of call %d after a book" % (left, operation),
+                BOOK + record(operation, 1)[:left])
     add("cut short after an unknown operation",
         THREE + record(99) + division(0, 0)[:5])
     add("a weight cut short as the 301st", weight(1) * 301 + weight(1)[:40])

@@ -156,7 +156,7 @@ def ties(cases, rng):
         cases.division(pool, [third, third, third + 1])
         cases.division(pool, [third - 1, third, third + 2])
     # Few values among many weights.
-    for _ in range(160):
+    for _ in range(60):
         values = [1 + by_bits(rng, 1 + rng.randrange(50))
                   for _ in range(1 + rng.randrange(4))]
         weights = fitted([values[rng.randrange(len(values))]
@@ -168,14 +168,14 @@ def ties(cases, rng):
             pool = 1 + rng.randrange(2 * total if total < LIMIT // 2 else total)
         cases.division(pool, weights)
     # Small values, where groups of unlike weights meet in one remainder.
-    for _ in range(160):
+    for _ in range(80):
         weights = [rng.randrange(9) for _ in range(2 + rng.randrange(12))]
         cases.division(1 + rng.randrange(60), weights)
 
 
 def whole_parts(cases, rng):
     """Pools at and beside multiples of T."""
-    for _ in range(20):
+    for _ in range(12):
         weights = [1 + by_bits(rng, 20) for _ in range(1 + rng.randrange(9))]
         total = sum(weights)
         times = 1 + by_bits(rng, 30)
@@ -194,7 +194,6 @@ def zero_weights(cases):
         cases.division(pool, [0, 7, 0])
         cases.division(pool, [0, 2, 0, 0, 3, 2, 0])
     cases.division(LIMIT, [0] * 255 + [1])
-    cases.division(1, [1] + [0] * 255)
     for pool in (0, 1, LIMIT, LIMIT + 1, LARGEST):
         cases.division(pool, [])
         cases.division(pool, [0])
@@ -218,12 +217,10 @@ def lengths(cases, rng):
         weights = [1 + by_bits(rng, 51) for _ in range(count)]
         cases.division(1 + pool_up_to_limit(rng) // 2, weights)
     # Over 256 with equal lengths comes before every other ground.
-    cases.division(0, [1] * 257)
     cases.division(5, [0] * 257)
     cases.division(LARGEST, [LARGEST] * 300)
     # The largest pool over the most weights.
     cases.division(LIMIT, [LIMIT // 256] * 256)
-    cases.division(LIMIT - 1, [LIMIT // 256] * 256)
     cases.division(255, [LIMIT // 256] * 256)
     cases.division(LIMIT, [LIMIT // 256 + 1] * 128 + [LIMIT // 256 - 1] * 128)
     # Unequal lengths.
@@ -232,8 +229,8 @@ def lengths(cases, rng):
             if share_count >= 0 and share_count != count:
                 cases.division(10, [1] * count, share_count)
     for count, share_count in (
-        (255, 254), (255, 256), (256, 255), (256, 257), (256, 0),
-        (257, 256), (257, 258), (257, 1), (300, 44), (300, 299), (300, 0),
+        (255, 256), (256, 255), (256, 257), (256, 0), (257, 256), (300, 44),
+        (300, 299),
     ):
         cases.division(count, [1] * count, share_count)
     # Lengths that are equal modulo 256.
@@ -283,7 +280,7 @@ def limits(cases):
     ):
         cases.division(1, weights)
         cases.division(LIMIT, weights)
-    for weights in ([LARGEST] * 256, [LIMIT] * 256, [2 ** 56] * 256):
+    for weights in ([LARGEST] * 256, [2 ** 56] * 256):
         cases.division(1, weights)
     for weights in (
         [2 ** 63, 2 ** 63], [2 ** 63, 0, 2 ** 63], [LARGEST, 1],
@@ -299,13 +296,13 @@ def limits(cases):
         cases.division(LIMIT, weights)
         cases.division(LIMIT + 1, weights)
     # 300 weights of 2^64 - 1: over 256 comes first, whatever the slice.
-    for share_count in (300, 256, 0):
+    for share_count in (256, 0):
         cases.division(1, [LARGEST] * 300, share_count)
 
 
 def large_products(cases, rng):
     """Pools and weights near 10^18: products near 10^36."""
-    for _ in range(60):
+    for _ in range(40):
         pool = LIMIT - by_bits(rng, 40)
         first = LIMIT - by_bits(rng, 40) - 2 ** 40
         second = rng.randrange(LIMIT - first)
@@ -315,7 +312,7 @@ def large_products(cases, rng):
         order[0], order[top] = order[top], order[0]
         cases.division(pool, order)
     # T - k over nearly equal weights: remainders close to one another.
-    for _ in range(60):
+    for _ in range(40):
         count = 2 + rng.randrange(20)
         base = LIMIT // count - 100
         weights = [base + rng.randrange(5) for _ in range(count)]
@@ -325,12 +322,12 @@ def large_products(cases, rng):
 
 def random_divisions(cases, rng):
     # 1 to 256 weights, bit lengths uniform over the weights or shared.
-    for _ in range(100):
+    for _ in range(16):
         count = 1 + rng.randrange(256)
         most_bits = 1 + rng.randrange(60)
         weights = fitted([by_bits(rng, most_bits) for _ in range(count)])
         cases.division(pool_up_to_limit(rng), weights)
-    for _ in range(400):
+    for _ in range(160):
         count = 1 + rng.randrange(1 << rng.randrange(1, 6))
         most_bits = 1 + rng.randrange(60)
         if rng.randrange(2) == 0:
@@ -339,7 +336,7 @@ def random_divisions(cases, rng):
             weights = [rng.getrandbits(most_bits) for _ in range(count)]
         cases.division(pool_up_to_limit(rng), fitted(weights))
     # Any words and lengths; most are refused.
-    for _ in range(250):
+    for _ in range(150):
         count = rng.randrange(7)
         weights = [by_bits(rng, 64) for _ in range(count)]
         share_count = count
@@ -358,7 +355,7 @@ def list_of_weights(cases):
         cases.division(10, [1, 1, 1])
     for pool, weights, share_count in (
         (10, [1, 2, 4], 2), (10, [0, 0, 0], 3), (10, [LARGEST] * 2, 2),
-        (LARGEST, [3], 1), (10, [1] * 300, 300),
+        (LARGEST, [3], 1),
     ):
         cases.division(pool, weights, share_count)
         cases.division(0, [])
@@ -458,6 +455,8 @@ def main(arguments):
             print("%6d %s gives %d" % (of_book.answers[name, number], name,
                                        number))
     print("%6d pairs of grounds in order" % len(of_book.pairs))
+    for sort in book_cases.sorts_of_closings():
+        print("%6d closings: %s" % (of_book.closings[sort], sort))
     return 0
 
 

@@ -10,8 +10,8 @@ seven arguments. An operation ignores the arguments that it does not use.
 import struct
 import sys
 
-import book
 import calculation
+import calls
 
 RECORD = struct.Struct("<8Q")
 
@@ -40,8 +40,8 @@ def call_of_book(name):
     """The operation that makes a call on the lent words."""
     def operation(state, arguments):
         lent = state.words[:state.lent]
-        numbers = book.make(name, lent,
-                            *arguments[:book.CALLS[name].arguments])
+        numbers = calls.make(name, lent,
+                             *arguments[:calls.CALLS[name].arguments])
         state.words[:state.lent] = lent
         return numbers
     return operation
@@ -87,7 +87,8 @@ def dump(state, arguments):
     return state.words[first:first + count]
 
 
-FRESH, OPEN, POST, STRIKE, ENROL, QUOTE = 1, 2, 3, 4, 5, 6
+FRESH, OPEN, POST, STRIKE, ENROL, QUOTE, CLOSE = 1, 2, 3, 4, 5, 6, 7
+INTENSITY = 9
 DIVIDE = 10
 APPEND_WEIGHT = 11
 POKE = 12
@@ -101,6 +102,8 @@ OPERATIONS = {
     STRIKE: call_of_book("strike"),
     ENROL: call_of_book("enrol"),
     QUOTE: call_of_book("quote"),
+    CLOSE: call_of_book("close"),
+    INTENSITY: call_of_book("intensity"),
     DIVIDE: divide,
     APPEND_WEIGHT: append_weight,
     POKE: poke,

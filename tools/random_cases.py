@@ -3,6 +3,7 @@
 import book
 from book import CATEGORIES, ELEMENTS, ENTRIES
 from book_writer import FARTHEST, LARGEST
+from closing import INTENSITY_CODES
 
 LARGE = 64  # the scale of measures that soon meet the limits of ground 10
 
@@ -40,7 +41,7 @@ def random_call(cases, rng, scale):
     category = 1 + rng.randrange(max(1, words[1] % 17))
     kind = words[book.place(CATEGORIES, category)]
     chain = one_of(rng, (1, 2, 3, 10_000, 1 + rng.randrange(10_000)))
-    sort = rng.randrange(100)
+    sort = rng.randrange(110)
     if sort < 4:
         return "open", (1 + rng.randrange(4),)
     if sort < 26:
@@ -55,9 +56,13 @@ def random_call(cases, rng, scale):
         return "enrol", (category, chain, code,
                          measure(book.amounts_of(code)),
                          0 if kind == 4 else measure(book.DISTANCES))
-    return "quote", (chain, rng.randrange(2), measure(book.MASSES),
-                     measure(book.DISTANCES), measure(book.INTENSITIES),
-                     measure(book.INTENSITIES))
+    if sort < 100:
+        return "quote", (chain, rng.randrange(2), measure(book.MASSES),
+                         measure(book.DISTANCES), measure(book.INTENSITIES),
+                         measure(book.INTENSITIES))
+    if sort < 103:
+        return "close", (category,)
+    return "intensity", (category, one_of(rng, INTENSITY_CODES))
 
 
 WILD = (0, 1, 2, 3, 4, 5, 15, 16, 17, 63, 64, 65, 99, 100, 101, 255, 256, 257,
@@ -86,13 +91,11 @@ def play_random(cases, rng, name, arguments):
         cases.dump_record(listing, numbers[1])
 
 
-def close_some(cases, rng):
-    """Closes a category that can be, by writing its words."""
-    old = book.Book(cases.words)
-    number = 1 + rng.randrange(max(1, len(old.categories)))
-    if (old.has_category(number) and not old.is_closed(number)
-            and old.elements_of(number)):
-        cases.close(number)
+def close_all(cases):
+    """Closes what can be closed, and shows every intensity."""
+    for number in range(1, cases.words[CATEGORIES.count] + 1):
+        cases.close(number, gives=None)
+        cases.intensities(number)
 
 
 def lists_in_range(cases, rng):
@@ -100,9 +103,8 @@ def lists_in_range(cases, rng):
         cases.new_book(*[1 + rng.randrange(4)
                          for _ in range(1 + rng.randrange(5))])
         for number in range(200):
-            if number % 60 == 50:
-                close_some(cases, rng)
             play_random(cases, rng, *random_call(cases, rng, scale))
+        close_all(cases)
         cases.dump_all()
 
 
@@ -110,9 +112,8 @@ def wild_lists(cases, rng):
     for _ in range(6):
         cases.new_book(1, 2, 3, 4)
         for number in range(240):
-            if number % 80 == 60:
-                close_some(cases, rng)
             play_random(cases, rng, *wild_call(cases, rng))
+        close_all(cases)
         cases.dump_all()
 
 
@@ -124,7 +125,7 @@ def lists_with_damage(cases, rng):
             play_random(cases, rng, *random_call(cases, rng, 20))
         for number in range(90):
             if number % 30 == 0:
-                close_some(cases, rng)
+                cases.close(1 + number // 30, gives=None)
             if rng.randrange(2) == 0:
                 play_random(cases, rng, *random_call(cases, rng, 20))
                 continue
@@ -140,6 +141,39 @@ def lists_with_damage(cases, rng):
         cases.dump_all()
 
 
+def lists_of_closings(cases, rng):
+    """Categories for freight and passengers whose groups have elements. In
+    every other book there are few measures, so that remainders are equal."""
+    for number in range(24):
+        scale = 2 if number % 2 == 0 else one_of(rng, (8, 16, 24, 30))
+        kinds = [one_of(rng, (1, 2, 3, 3, 4)) for _ in range(3)]
+        cases.new_book(3, *kinds)
+        for step in range(28):
+            category = 1 + rng.randrange(4)
+            kind = (3, *kinds)[category - 1]
+            random_member(cases, rng, category, kind, scale)
+            if step % 3 == 0:
+                group = 0 if kind == 2 else one_of(rng, (0, 0, 1, 2))
+                quantity = random_measure(rng, book.QUANTITIES, 20)
+                cases.post(category, group, quantity,
+                           random_measure(rng, book.FACTORS, 30),
+                           random_measure(rng, book.FACTORS, 30))
+            if step % 9 == 8:
+                cases.strike(1 + rng.randrange(cases.words[2]), gives=None)
+        close_all(cases)
+        cases.dump_book()
+
+
+def random_member(cases, rng, category, kind, scale):
+    """Enrols an element that suits the kind."""
+    passengers = kind == 2 or kind == 3 and rng.randrange(2) == 0
+    code = (one_of(rng, (100, 150, 400, 1000)) if passengers
+            else rng.randrange(3))
+    cases.enrol(category, 1 + rng.randrange(4), code,
+                random_measure(rng, book.amounts_of(code), scale),
+                0 if kind == 4 else random_measure(rng, book.DISTANCES, scale))
+
+
 def some_word(cases, rng):
     """A word of the header, of a counted record or of the next one."""
     if rng.randrange(8) == 0:
@@ -153,3 +187,4 @@ def add(cases, rng):
     lists_in_range(cases, rng)
     wild_lists(cases, rng)
     lists_with_damage(cases, rng)
+    lists_of_closings(cases, rng)

@@ -2,9 +2,8 @@
 
 import book
 import player
-from book import CATEGORIES, ELEMENTS, ENTRIES
-from book_writer import (
-    EMISSIONS, FAR, FARTHEST, LARGEST, SOUND, UNSOUND, word)
+from book import CATEGORIES, ELEMENTS, ENTRIES, word
+from book_writer import EMISSIONS, FAR, FARTHEST, LARGEST, SOUND, UNSOUND
 
 
 # Closed categories, sums, and records at their edges.
@@ -98,7 +97,20 @@ def closed_categories(cases):
     cases.tried([(closed[1], 1), (word(ELEMENTS, 4, "category"), 0),
                  (word(ENTRIES, 4, "category"), 3)], UNSOUND)
     cases.tried([(closed[1], 1), (other[0], 11), (other[1], 12)], SOUND)
-    # The calls on a book with closed categories.
+    # A real closing: 100 over 1, 2, 3 is 17, 33, 50 and 50 is 8, 17, 25;
+    # 30 over 2, 3 is 12, 18. One word off, and its sums moved.
+    cases.close(1)
+    cases.shares_are(1, (17, 45, 68), (8, 17, 25))
+    cases.dump_book()
+    for index in (*first, *second, *third):
+        for change in (1, -1):
+            cases.tried([(index, cases.words[index] + change)], UNSOUND)
+    cases.tried([(first[0], 16), (third[0], 69)], SOUND)
+    cases.tried([(first[0], 16), (second[1], 18)], UNSOUND)
+    cases.tried([(closed[0], 0)], UNSOUND)
+    cases.close(1, gives=4)
+    # The calls on a book with closed categories: shares with the right sums
+    # that no closing gives, and category 3 without elements.
     for index, value in right:
         cases.poke(index, value)
     cases.poke(closed[2], 1)
@@ -372,42 +384,45 @@ def every_sort_of_record(cases, rng):
         else:
             cases.enrol(category, chain, 100 + rng.randrange(901),
                         1 + rng.randrange(500), far)
-    for category in (5, 6, 7, 8, 13, 14):
+    for category in (5, 6, 7, 8):
         cases.close(category)
+    for category in (13, 14):
+        cases.poke_closed(category)
 
 
 def part_filled_book(cases, rng):
-    """7 categories, 11 entries and 24 elements of every sort."""
+    """7 categories, 11 entries and 24 elements of every sort. Category 3 has
+    no frozen element; an entry of 0 for them does not hinder its closing."""
     cases.new_book(1, 2, 3, 4, 3, 4, 1)
-    for number in range(10):
+    for number, group in enumerate((0, 0, 0, 0, 1, 2, 1, 0, 1, 2)):
         category = number % 6 + 1
-        group = rng.randrange(3) if category != 2 else 0
         cases.post(category, group, 1 + rng.randrange(10 ** 8),
                    rng.randrange(10 ** 8), rng.randrange(10 ** 8))
         if number in (1, 4, 5):
             cases.strike(number + 1)
-    cases.post(3, 1, 1000, 0, 0)
+    cases.post(3, 2, 1000, 0, 0)
     for number in range(24):
         chain = 1 + rng.randrange(10_000)
         far = 1 + rng.randrange(10 ** 5)
         mass = 1 + rng.randrange(10 ** 6)
-        category = number % 7
+        category, code = number % 7, number // 7 % 3
         if category == 0:
             cases.quote(chain, number // 7 % 2, mass, far,
                         rng.randrange(10 ** 5), rng.randrange(10 ** 5))
         elif category in (4, 6):
-            cases.enrol(category, chain, rng.randrange(3), mass, 0)
-        elif category == 1 or category != 2 and rng.randrange(2) == 0:
-            cases.enrol(category, chain, rng.randrange(3), mass, far)
+            cases.enrol(category, chain, code, mass, 0)
+        elif category == 1 or category != 2 and code < 2:
+            cases.enrol(category, chain, code, mass, far)
         else:
             cases.enrol(category, chain, 100 + rng.randrange(901),
                         1 + rng.randrange(500), far)
 
 
 def close_part(cases):
-    """Closes 2, 3 and 4, and 7, which is empty."""
-    for category in (2, 3, 4, 7):
+    """Closes 2, 3 and 4, and 7, which is empty, by its word."""
+    for category in (2, 3, 4):
         cases.close(category)
+    cases.poke_closed(7)
 
 
 def every_word(cases, rng):
@@ -433,8 +448,12 @@ def every_word(cases, rng):
         cases.enrol(1, 1, 0, 1, 1, gives=1)
         cases.quote(1, 0, 1, 1, 1, 1, gives=1)
         cases.open(1, gives=1)
+        cases.close(1, gives=1)
+        cases.intensity(5, 0, gives=1)
         cases.poke(index, value)
     cases.is_sound()
+    cases.close(1)
+    cases.intensity(5, 0)
     cases.dump_book()
 
 

@@ -14,6 +14,7 @@ import sys
 import book_checks
 import calculation
 import player
+from second_way import one_at_a_time
 
 SEED = 26
 LIMIT = 10 ** 18
@@ -28,29 +29,6 @@ def check(holds, *what):
         print("failed:", *what)
         sys.exit(1)
     passed += 1
-
-
-def one_at_a_time(pool, weights):
-    """The second way: each unit left over goes to the first place with the
-    largest remainder among the places not yet served."""
-    total = sum(weights)
-    shares = []
-    remainders = []
-    for weight in weights:
-        share, remainder = divmod(pool * weight, total)
-        shares.append(share)
-        remainders.append(remainder)
-    served = [False] * len(weights)
-    while sum(shares) < pool:
-        best = None
-        for place in range(len(weights)):
-            if served[place]:
-                continue
-            if best is None or remainders[place] > remainders[best]:
-                best = place
-        shares[best] += 1
-        served[best] = True
-    return shares
 
 
 def check_division(pool, weights):

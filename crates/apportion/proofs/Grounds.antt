@@ -1,7 +1,7 @@
 -- Laws of ordered grounds. Assumes nothing.
+use mathlib.Core.Bool.{Bool, cond, false, true, _||_, true≢false}
 use mathlib.Core.Path.{_≡_, refl}
-use mathlib.Core.Bool.{Bool, true, false, cond, _||_, true≢false}
-use Prim.Native.Nat.{ℕ, zero, suc}
+use Prim.Native.Nat.{ℕ, suc, zero}
 use native.Mathlib.Omega.{arith}
 use Rattle.apportion.specs.Grounds.{accepted}
 
@@ -13,6 +13,13 @@ first-none n false rest e = (refl, e)
 pub or-none : (a b : Bool) → a || b ≡ false → (a ≡ false) × (b ≡ false)
 or-none true b e = absurd (true≢false e)
 or-none false b e = (refl, e)
+
+-- a ground that does not hold is passed over, and the first that holds gives its number
+pub passed : {holds : Bool} (n : ℕ) {rest : ℕ} → holds ≡ false → cond holds n rest ≡ rest
+passed n e = rw e
+
+pub stopped : {holds : Bool} (n rest : ℕ) → holds ≡ true → cond holds n rest ≡ n
+stopped n rest e = rw e
 
 -- an accepted call leaves the new, a refused one the old
 pub accepted-new : {A : Type 0} (n : ℕ) (new old : A) → n ≡ 0 → accepted n new old ≡ new

@@ -6,11 +6,11 @@ use Prim.Native.Nat.{_-_, ℕ, _<_, _+_, _*_, _≤_}
 use lib.Dec.{eqb, leb, ltb}
 use borrow.Author.Tests.{eqb-true, not-false, leb-false, ltb-false}
 use Rattle.apportion.specs.Dividing.{largest}
-use Rattle.book_words.specs.Book.{categoryOf, categories, mostCategories, entries, mostEntries, entryAt, elements, mostElements}
+use Rattle.book_words.specs.Book.{categoryOf, categories, mostCategories, entries, mostEntries, entryAt, elements, mostElements, isClosed, unnumbered}
 use Rattle.book_words.specs.Measures.{isKind, between, isGroup, unsuitedGroup, unsuited, isQuantity, isFactor, isChain, isCode, isAmount, isDistance, massActivity, isIntensity}
 use Rattle.book_words.specs.Soundness.{sound}
 use Rattle.book_words.specs.Totals.{operation, provision, emitted, passesAmounts, activities, mostActivity, passesActivity}
-use Rattle.book.specs.Calls.{isClosed, openRefusal, postRefusal, unnumbered, strikeRefusal, enrolledElement, enrolRefusal, quotedAmount, quotedElement, quoteRefusal}
+use Rattle.book.specs.Calls.{openRefusal, postRefusal, strikeRefusal, enrolledElement, enrolRefusal, quotedAmount, quotedElement, quoteRefusal}
 use Rattle.apportion.proofs.Grounds.{first-none, or-none}
 use Rattle.book_words.proofs.Booleans.{both}
 

@@ -1,9 +1,9 @@
 -- An accepted call leaves a sound book sound. Assumes nothing.
-use mathlib.Core.Bool.{true, cond, not, _&&_}
+use mathlib.Core.Bool.{true, cond, _&&_, not}
 use mathlib.Core.List.{List}
-use mathlib.Core.Logic.{⊎-elim, _⊎_, inr, inl}
+use mathlib.Core.Logic.{⊎-elim}
 use mathlib.Core.Path.{_≡_, sym, _∙_, ap, refl}
-use Prim.Native.Nat.{ℕ, _-_, _≤_, _<_, _+_}
+use Prim.Native.Nat.{ℕ, _≤_, _<_, _-_, _+_}
 use native.Mathlib.Nat.{eq-zero-or-pos, add-zero}
 use native.Mathlib.Omega.{arith}
 use lib.Dec.{leb, eqb}
@@ -11,14 +11,15 @@ use borrow.Author.Tests.{le-leb, ne-eqb}
 use Rattle.apportion.specs.Dividing.{largest}
 use Rattle.apportion.specs.Places.{sumBelow}
 use Rattle.book_words.specs.Book.{categories, categoryAt, categoryOf, entries, entryAt, elements, elementAt, mostCategories, mostEntries, mostElements}
-use Rattle.book_words.specs.Measures.{between, massActivity, isGroup, unsuitedGroup}
+use Rattle.book_words.specs.Measures.{massActivity, between, isGroup, unsuitedGroup}
 use Rattle.book_words.specs.Soundness.{entryFine, entrySuits, elementFine, elementSuits, categoryFine}
-use Rattle.book_words.specs.Totals.{Side, unstruck, allUnstruck, unstruckOf, sharesOf, activities, shareOf, emitted, mostActivity}
+use Rattle.book_words.specs.Totals.{Side, unstruck, allUnstruck, unstruckOf, sharesOf, shareOf, activities, emitted, mostActivity}
 use Rattle.book_words.specs.declared.records.Category.{Category}
 use Rattle.book_words.specs.declared.records.Element.{Element}
 use Rattle.book_words.specs.declared.records.Entry.{Entry}
-use Rattle.apportion.proofs.Sums.{sum-next, sum-cong, below-or-not, order, sum-le}
+use Rattle.apportion.proofs.Sums.{sum-next, sum-cong, below-or-not, sum-le}
 use Rattle.book_words.proofs.Booleans.{and-both, both}
+use Rattle.book_words.proofs.Kept.{same-or-not, entries-kept, elements-kept}
 use Rattle.book_words.proofs.Ranges.{between-low, between-high}
 use Rattle.book_words.proofs.Rules.{entry-inside, entry-numbered, element-quoted, element-inside, element-numbered}
 use Rattle.book_words.proofs.Views.{struckEntry, EntryStruck, CategoryAdded, EntryAdded, ElementAdded}
@@ -70,43 +71,7 @@ sum-one-more n n′ f f′ new e same here = rw (e, sum-next n f′, sum-cong n 
 last : {A : Type 0} (n p : ℕ) → p < n + 1 → (p < n → A) → (p ≡ n → A) → A
 last n p h old new = ⊎-elim (λ (i : p < n). old i) (λ (i : n ≤ p). new (omega arith)) (below-or-not p n)
 
-same-or-not : (a b : ℕ) → (a ≡ b) ⊎ (a ≡ b → ⊥)
-same-or-not a b =
-    ⊎-elim
-    (λ (l : a < b). inr (λ e. omega arith))
-    (λ (m : (a ≡ b) ⊎ (b < a)). ⊎-elim (λ (e : a ≡ b). inl e) (λ (l : b < a). inr (λ e. omega arith)) m)
-    (order a b)
-
--- the sums over a list that is the same
 module _ (ws ws′ : List ℕ) where
-  pub entries-kept : entries ws′ ≡ entries ws → ((p : ℕ) → p < entries ws → entryAt ws′ p ≡ entryAt ws p)
-      → ((s : Side) → allUnstruck ws′ s ≡ allUnstruck ws s) × ((k : ℕ) (s : Side) → unstruckOf ws′ k s ≡ unstruckOf ws k s)
-  unfolding allUnstruck unstruckOf
-  entries-kept e same = (
-    λ s.
-        rw e
-        (sum-cong (entries ws) (λ p. unstruck s (entryAt ws′ p)) (λ p. unstruck s (entryAt ws p)) (λ p h. ap (unstruck s) (same p h))),
-    λ k s.
-        rw e
-        (sum-cong (entries ws)
-        (λ p. cond (eqb (entryAt ws′ p .category) k) (unstruck s (entryAt ws′ p)) 0)
-        (λ p. cond (eqb (entryAt ws p .category) k) (unstruck s (entryAt ws p)) 0)
-        (λ p h. ap (λ (r : Entry). cond (eqb (r .category) k) (unstruck s r) 0) (same p h))),
-  )
-
-  pub elements-kept : elements ws′ ≡ elements ws → ((p : ℕ) → p < elements ws → elementAt ws′ p ≡ elementAt ws p)
-      → ((k : ℕ) (s : Side) → sharesOf ws′ k s ≡ sharesOf ws k s) × (activities ws′ ≡ activities ws)
-  unfolding sharesOf activities
-  elements-kept e same = (
-    λ k s.
-        rw e
-        (sum-cong (elements ws)
-        (λ p. cond (eqb (elementAt ws′ p .category) k) (shareOf s (elementAt ws′ p)) 0)
-        (λ p. cond (eqb (elementAt ws p .category) k) (shareOf s (elementAt ws p)) 0)
-        (λ p h. ap (λ (r : Element). cond (eqb (r .category) k) (shareOf s r) 0) (same p h))),
-    rw e (sum-cong (elements ws) (λ p. massActivity (elementAt ws′ p)) (λ p. massActivity (elementAt ws p)) (λ p h. ap massActivity (same p h))),
-  )
-
   -- the sums over a list with one record more
   pub entries-more : (r : Entry) → entries ws′ ≡ entries ws + 1 → ((p : ℕ) → p < entries ws → entryAt ws′ p ≡ entryAt ws p) → entryAt ws′ (entries ws) ≡ r
       → ((s : Side) → allUnstruck ws′ s ≡ allUnstruck ws s + unstruck s r)

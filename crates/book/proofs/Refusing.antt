@@ -1,56 +1,28 @@
 -- What the tests of a call say as the grounds of its definition. Assumes nothing.
-use mathlib.Core.Bool.{true, false, not, Bool, cond, _&&_, _||_}
+use mathlib.Core.Bool.{Bool, not, _&&_, true, false, _||_}
 use mathlib.Core.List.{List}
-use mathlib.Core.Path.{_≡_, _∙_, ap, sym, refl}
-use Prim.Native.Nat.{_-_, ℕ, zero, suc, _≤_, _<_}
+use mathlib.Core.Path.{_≡_, sym, _∙_, refl, ap}
+use Prim.Native.Nat.{ℕ, zero, suc, _≤_, _-_, _<_}
 use native.Mathlib.Omega.{arith}
 use lib.Dec.{eqb}
-use borrow.Author.Tests.{not-false, ne-eqb, eq-eqb}
+use borrow.Author.Tests.{not-false}
 use Rattle.apportion.specs.Grounds.{accepted}
-use Rattle.book_words.specs.Book.{numberedCategory, categories, categoryOf, numberedEntry, entries, entryAt, mostEntries}
+use Rattle.book_words.specs.Book.{unnumbered, entries, mostEntries, entryAt, categories, numberedEntry, numberedCategory, isClosed}
 use Rattle.book_words.specs.Measures.{between, massActivity}
 use Rattle.book_words.specs.Soundness.{sound, entriesFine, entryFine}
-use Rattle.book_words.specs.Totals.{capped, passesAmounts, emitted, operation, provision, passesActivity}
+use Rattle.book_words.specs.Totals.{passesAmounts, capped, emitted, operation, provision, passesActivity}
 use Rattle.book_words.specs.declared.records.Category.{Category}
 use Rattle.book_words.specs.declared.records.Element.{Element}
 use Rattle.book_words.specs.declared.records.Entry.{Entry}
 use Rattle.book.specs.declared.replies.Reply.{Reply}
-use Rattle.book.specs.Calls.{unnumbered, isClosed, replyOf, quotedElement, quotedAmount}
+use Rattle.book.specs.Calls.{replyOf, quotedElement, quotedAmount}
 use Rattle.book.specs.Quotes.{capShares}
 use Rattle.book_words.proofs.Capping.{capped-added}
 use Rattle.book_words.proofs.Every.{every-at}
 use Rattle.book_words.proofs.Facts.{sound-counted, sound-parts}
+use Rattle.book_words.proofs.Numbered.{entry-there, category-there}
 use Rattle.book_words.proofs.Ranges.{between-low, between-high}
 use Rattle.book_words.proofs.Rules.{entry-inside}
-
--- the record of a number that is there
-pub category-there : (ws : List ℕ) (number : ℕ) (r : Category) → r ≡ numberedCategory ws number → between 1 (categories ws) number ≡ true → r ≡ categoryOf ws number
-category-there ws number r is inside = is ∙ rw inside
-
-pub entry-there : (ws : List ℕ) (number : ℕ) (r : Entry) → r ≡ numberedEntry ws number → between 1 (entries ws) number ≡ true → r ≡ entryAt ws (number - 1)
-entry-there ws number r is inside = is ∙ rw inside
-
--- the category that was read is that of the definition
-module _ (ws : List ℕ) (category : ℕ) (r : Category) (given : r ≡ numberedCategory ws category) (left : unnumbered (categories ws) category ≡ false) where
-  is : r ≡ categoryOf ws category
-  is = category-there ws category r given (not-false (between 1 (categories ws) category) left)
-
-  pub was-closed : (r .closed ≡ 0 → ⊥) → isClosed ws category ≡ true
-  was-closed ne = rw (ap (λ (x : Category). x .closed) (sym is), ne-eqb (r .closed) 0 ne)
-
-  pub was-open : r .closed ≡ 0 → isClosed ws category ≡ false
-  was-open e = rw (ap (λ (x : Category). x .closed) (sym is), eq-eqb (r .closed) 0 e)
-
-  -- a test of its kind
-  pub of-kind : (test : ℕ → Bool) (b t : Bool) → b ≡ test (r .kind) → b ≡ t → test (categoryOf ws category .kind) ≡ t
-  of-kind test b t e h = ap (λ (x : Category). test (x .kind)) (sym is) ∙ sym e ∙ h
-
--- a ground that does not hold is passed over, and the first that holds gives its number
-pub passed : {holds : Bool} (n : ℕ) {rest : ℕ} → holds ≡ false → cond holds n rest ≡ rest
-passed n e = rw e
-
-pub stopped : {holds : Bool} (n rest : ℕ) → holds ≡ true → cond holds n rest ≡ n
-stopped n rest e = rw e
 
 -- the amounts of ground 10 are capped
 pub passes-capped : (ws : List ℕ) (a b : ℕ) → passesAmounts ws (capped a) (capped b) ≡ passesAmounts ws a b

@@ -1,14 +1,14 @@
 -- "Calls" and their "Grounds, in checking order". Each call has one ordered list of its grounds; its reply and the book after
 -- it go by the number of the first ground that holds. Assumes nothing.
-use mathlib.Core.Bool.{not, Bool, _&&_, _||_, cond}
+use mathlib.Core.Bool.{not, _&&_, _||_, cond}
 use mathlib.Core.List.{List, _++_, _∷_, []}
 use Prim.Native.Nat.{ℕ, _+_, _*_}
 use lib.Dec.{ltb, leb, eqb}
 use lib.ListN.{drop, length, set}
 use Rattle.apportion.specs.Grounds.{accepted, Ground, firstOf}
 use Rattle.apportion.specs.Places.{listBelow}
-use Rattle.book_words.specs.Book.{bookLength, mark, mostCategories, categories, addCategory, categoryOf, mostEntries, entries, addEntry, entryOf, strikeEntry, mostElements, elements, addElement}
-use Rattle.book_words.specs.Measures.{isKind, between, isGroup, unsuitedGroup, unsuited, isQuantity, isFactor, activityOf, isChain, isCode, isAmount, isDistance, nearest, isAdjust, isIntensity}
+use Rattle.book_words.specs.Book.{bookLength, mark, mostCategories, categories, addCategory, categoryOf, mostEntries, entries, addEntry, entryOf, strikeEntry, mostElements, elements, addElement, unnumbered, isClosed}
+use Rattle.book_words.specs.Measures.{isKind, isGroup, unsuitedGroup, unsuited, isQuantity, isFactor, activityOf, isChain, isCode, isAmount, isDistance, nearest, isAdjust, isIntensity}
 use Rattle.book_words.specs.Soundness.{sound}
 use Rattle.book_words.specs.Totals.{passesAmounts, passesActivity}
 use Rattle.book_words.specs.declared.records.Element.{Element}
@@ -48,14 +48,6 @@ openReply ws kind = replyOf (openRefusal ws kind) (categories ws + 1)
 
 unfoldable pub openBook : List ℕ → ℕ → List ℕ
 openBook ws kind = accepted (openRefusal ws kind) (addCategory ws (record { kind = kind; closed = 0 })) ws
-
--- ground 2: "A category or entry number is not between 1 and its count."
-abbrev pub unnumbered : ℕ → ℕ → Bool
-unnumbered count number = not (between 1 count number)
-
--- ground 4: "A closed category"
-abbrev pub isClosed : List ℕ → ℕ → Bool
-isClosed ws category = not (eqb (categoryOf ws category .closed) 0)
 
 -- "**post** (category, group, quantity, operation factor, provision factor)"; "quantity × factor is µg"
 abbrev pub postGrounds : List ℕ → ℕ → ℕ → ℕ → ℕ → ℕ → List Ground

@@ -42,11 +42,11 @@ pub capped-more : (a b : ℕ) → capped (a + capped b) ≡ capped (a + b)
 capped-more a b = omega arith
 
 -- a capped sum passes a limit as the sum does
-pub capped-over : (n : ℕ) → ltb largest (capped n) ≡ ltb largest n
-capped-over n =
+pub capped-over : (limit n : ℕ) → limit ≤ largest → ltb limit (capped n) ≡ ltb limit n
+capped-over limit n h =
     ⊎-elim
     (λ (l : n < suc largest). rw (capped-small n (omega arith)))
-    (λ (g : suc largest ≤ n). lt-ltb largest (capped n) (omega arith) ∙ sym (lt-ltb largest n (omega arith)))
+    (λ (g : suc largest ≤ n). lt-ltb limit (capped n) (omega arith) ∙ sym (lt-ltb limit n (omega arith)))
     (below-or-not n (suc largest))
 
 pub capped-past : (a b : ℕ) → ltb mostActivity (capped a + capped b) ≡ ltb mostActivity (a + b)
@@ -74,4 +74,4 @@ capped-equal a b h =
     (below-or-not a (suc largest))
 
 pub capped-added : (a b : ℕ) → ltb largest (a + capped b) ≡ ltb largest (a + b)
-capped-added a b = sym (capped-over (a + capped b)) ∙ ap (ltb largest) (capped-more a b) ∙ capped-over (a + b)
+capped-added a b = sym (capped-over largest (a + capped b) (omega arith)) ∙ ap (ltb largest) (capped-more a b) ∙ capped-over largest (a + b) (omega arith)

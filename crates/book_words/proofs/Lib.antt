@@ -9,3 +9,5 @@ pub mod Rules
 pub mod Writes
 pub mod Views
 pub mod Wholes
+pub mod Numbered
+pub mod Kept

@@ -1,8 +1,9 @@
 -- "The book" of document 01: a lent slice of 64-bit words, given here as the list of its words. "Records are numbered from
 -- 1"; places are counted from 0, and the record of number n stands at place n - 1. Assumes nothing.
-use mathlib.Core.Bool.{cond}
+use mathlib.Core.Bool.{cond, Bool, not}
 use mathlib.Core.List.{List, [], _∷_}
 use Prim.Native.Nat.{ℕ, _+_, _*_, _-_}
+use lib.Dec.{eqb}
 use lib.ListN.{set}
 use Rattle.apportion.specs.Places.{at}
 use Rattle.book_words.specs.declared.records.Category.{Category}
@@ -132,3 +133,26 @@ numberedEntry ws number =
     cond (between 1 (entries ws) number)
     (entryOf ws number)
     (record { category = 0; group = 0; operation = 0; provision = 0; struck = 0 })
+
+abbrev pub numberedElement : List ℕ → ℕ → Element
+numberedElement ws number =
+    cond (between 1 (elements ws) number)
+    (elementAt ws (number - 1))
+    (record {
+      category = 0;
+      chain = 0;
+      code = 0;
+      amount = 0;
+      distance = 0;
+      activity = 0;
+      operation = 0;
+      provision = 0;
+    })
+
+-- ground 2: "A category or entry number is not between 1 and its count."
+abbrev pub unnumbered : ℕ → ℕ → Bool
+unnumbered count number = not (between 1 count number)
+
+-- ground 4: "A closed category"
+abbrev pub isClosed : List ℕ → ℕ → Bool
+isClosed ws category = not (eqb (categoryOf ws category .closed) 0)

@@ -31,6 +31,7 @@ pub use records::MOST_CATEGORIES;
 pub use records::MOST_ELEMENTS;
 pub use records::MOST_ENTRIES;
 pub use soundness::category_of;
+pub use soundness::element_of;
 pub use soundness::entry_of;
 pub use soundness::is_sound;
 pub use totals::add;

@@ -3,7 +3,7 @@
 ghost use mathlib.Core.Bool.{true};
 ghost use mathlib.Core.Path.{_≡_};
 ghost use Prim.Native.Nat.{_<_};
-ghost use Rattle.book_words.specs.Book.{numberedCategory, numberedEntry, mostEntries, entryAt, mostElements, elementAt, mostCategories};
+ghost use Rattle.book_words.specs.Book.{numberedCategory, numberedEntry, numberedElement, mostEntries, entryAt, mostElements, elementAt, mostCategories};
 ghost use Rattle.book_words.specs.Measures.{isCode};
 ghost use Rattle.book_words.specs.Parts.{CountsWithin, Limited, countIn, recordFine};
 ghost use Rattle.book_words.specs.Soundness.{sound, headerFine, sumsFine, allBelow, categoryFine, entryFine, entrySuits, elementFine, quotedSuits, elementSuits, measured as measuredFor, sharesWait, sharesFine};
@@ -52,6 +52,26 @@ pub fn entry_of(book: &[u64], number: u64) -> Entry
         operation: 0,
         provision: 0,
         struck: 0,
+    }
+}
+
+// The element of this number, or zeros where there is none.
+pub fn element_of(book: &[u64], number: u64) -> Element
+    requires { ⌜ sound (now book) ≡ true ⌝ }
+    ensures { λ r. ⌜ r ≡ numberedElement (now (book .entry)) number ⌝ }
+{
+    if (1 <= number) & (number <= book[records::ELEMENTS]) {
+        return records::read_element(book, number as usize - 1);
+    }
+    Element {
+        category: 0,
+        chain: 0,
+        code: 0,
+        amount: 0,
+        distance: 0,
+        activity: 0,
+        operation: 0,
+        provision: 0,
     }
 }
 

@@ -1,8 +1,11 @@
--- Operations 1 to 6: what a call of the book prints, and what it leaves of the lent words. Assumes nothing.
+-- Operations 1 to 7 and 9: what a call of the book prints, and what it leaves of the lent words. Assumes nothing.
 use Prim.Native.Nat.{ℕ}
 use mathlib.Core.Bool.{cond}
 use mathlib.Core.List.{List, [], _∷_}
 use lib.Dec.{eqb}
+use Rattle.book_shares.specs.declared.intensities.Intensity.{Intensity}
+use Rattle.book_shares.specs.Closing.{closeRefusal, closeBook}
+use Rattle.book_shares.specs.Intensities.{intensityReply}
 use Rattle.book.specs.declared.replies.Reply.{Reply}
 use Rattle.book.specs.Calls.{freshRefusal, freshBook, openReply, openBook, postReply, postBook, strikeRefusal, strikeBook, enrolReply, enrolBook, quoteReply, quoteBook}
 use Rattle.replay.specs.declared.output.Output.{Output}
@@ -29,6 +32,10 @@ refusalLine refusal = line refusal []
 -- the line of a refusal number and a record's number
 abbrev pub replyLine : Reply → List ℕ
 replyLine reply = line (reply .refusal) (reply .number ∷ [])
+
+-- the line of a refusal number and the two amounts of an intensity
+abbrev pub intensityLine : Intensity → List ℕ
+intensityLine reply = line (reply .refusal) (reply .operation ∷ reply .provision ∷ [])
 
 abbrev pub freshCall : Loan → Loan
 freshCall loan = leaving (refusalLine (freshRefusal (loan .book))) (freshBook (loan .book)) loan
@@ -62,7 +69,16 @@ quoteCall words loan =
     (quoteBook (loan .book) (words .first) (words .second) (words .third) (words .fourth) (words .fifth) (words .sixth))
     loan
 
--- the call of an operation from 1 to 6
+abbrev pub closeCall : Words → Loan → Loan
+closeCall words loan =
+    leaving (refusalLine (closeRefusal (loan .book) (words .first))) (closeBook (loan .book) (words .first)) loan
+
+-- an intensity leaves the words as they are
+abbrev pub intensityCall : Words → Loan → Loan
+intensityCall words loan =
+    leaving (intensityLine (intensityReply (loan .book) (words .first) (words .second))) (loan .book) loan
+
+-- the call of an operation from 1 to 7, or of 9
 unfoldable pub answered : Words → Loan → Loan
 answered words loan =
     cond (eqb (words .operation) 1) (freshCall loan)
@@ -70,4 +86,6 @@ answered words loan =
     (cond (eqb (words .operation) 3) (postCall words loan)
     (cond (eqb (words .operation) 4) (strikeCall words loan)
     (cond (eqb (words .operation) 5) (enrolCall words loan)
-    (quoteCall words loan)))))
+    (cond (eqb (words .operation) 6) (quoteCall words loan)
+    (cond (eqb (words .operation) 7) (closeCall words loan)
+    (intensityCall words loan)))))))

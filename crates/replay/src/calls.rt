@@ -1,9 +1,9 @@
-// Operations 1 to 6: the calls of the book, on the lent words of its array.
+// Operations 1 to 7 and 9: the calls of the book, on the lent words of its array.
 ghost use mathlib.Core.Path.{_≡_};
 ghost use mathlib.Core.List.{List};
 ghost use Prim.Native.Nat.{ℕ};
 ghost use Rattle.replay.specs.Waiting.{waitingIn, put};
-ghost use Rattle.replay.specs.Answers.{loanOf, refusalLine, replyLine, answered, freshCall, openCall, postCall, strikeCall, enrolCall, quoteCall};
+ghost use Rattle.replay.specs.Answers.{loanOf, refusalLine, replyLine, answered, freshCall, openCall, postCall, strikeCall, enrolCall, quoteCall, closeCall, intensityCall};
 ghost use Rattle.replay.specs.Replay.{runOf, called};
 use crate::output;
 use crate::output::Buffer;
@@ -37,7 +37,9 @@ fn answer(words: Words, book: &mut [u64], buffer: &mut Buffer, output: Output) -
         3 => post(words, book, buffer, output),
         4 => strike(words, book, buffer, output),
         5 => enrol(words, book, buffer, output),
-        _ => quote(words, book, buffer, output),
+        6 => quote(words, book, buffer, output),
+        7 => close(words, book, buffer, output),
+        _ => intensity(words, book, buffer, output),
     }
 }
 
@@ -109,6 +111,27 @@ fn quote(words: Words, book: &mut [u64], buffer: &mut Buffer, output: Output) ->
         words.sixth,
     );
     put_reply(reply, buffer, output)
+}
+
+fn close(words: Words, book: &mut [u64], buffer: &mut Buffer, output: Output) -> Output
+    ensures { λ r. ⌜ loanOf (now (book .exit)) (now (buffer .exit)) r
+        ≡ closeCall words (loanOf (now (book .entry)) (now (buffer .entry)) output) ⌝ }
+{
+    let refusal = book::close(book, words.first);
+    put_refusal(refusal, buffer, output)
+}
+
+fn intensity(words: Words, book: &mut [u64], buffer: &mut Buffer, output: Output) -> Output
+    ensures { λ r. ⌜ loanOf (now (book .exit)) (now (buffer .exit)) r
+        ≡ intensityCall words (loanOf (now (book .entry)) (now (buffer .entry)) output) ⌝ }
+{
+    let reply = book::intensity(book, words.first, words.second);
+    output::put_line(
+        reply.refusal,
+        &[reply.operation, reply.provision],
+        buffer,
+        output,
+    )
 }
 
 // Puts the line of a reply: the refusal number and the number.

@@ -5,8 +5,8 @@ use borrow.Author.Needs.{needs}
 use Rattle.book_words.specs.Book.{categoryOf}
 use Rattle.book_words.specs.declared.records.Category.{Category}
 use Rattle.book_words.proofs.Capping.{capped-small}
+use Rattle.book_words.proofs.Numbered.{category-there}
 use Rattle.book_words.proofs.Ranges.{activity-small}
-use Rattle.book.proofs.Refusing.{category-there}
 use Rattle.book.proofs.enrolling.enrolled.Statement.{statement}
 use Rattle.book.proofs.enrolling.enrolled.Tie as tie
 

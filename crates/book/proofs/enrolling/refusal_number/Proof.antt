@@ -12,9 +12,11 @@ use Rattle.book_words.specs.Book.{categoryOf, mostElements, elements, categorie
 use Rattle.book_words.specs.Measures.{isChain, isCode, unsuited, isAmount, isDistance, between}
 use Rattle.book_words.specs.Totals.{passesActivity}
 use Rattle.book.specs.Calls.{enrolRefusal, enrolGrounds}
+use Rattle.apportion.proofs.Grounds.{passed, stopped}
 use Rattle.book_words.proofs.Booleans.{both}
 use Rattle.book_words.proofs.Facts.{sound-counted}
-use Rattle.book.proofs.Refusing.{passed, not-is2, was-open, of-kind, stopped, was-closed}
+use Rattle.book_words.proofs.Numbered.{was-open, of-kind, was-closed}
+use Rattle.book.proofs.Refusing.{not-is2}
 use Rattle.book.proofs.enrolling.refusal_number.Statement.{statement}
 use Rattle.book.proofs.enrolling.refusal_number.Tie as tie
 

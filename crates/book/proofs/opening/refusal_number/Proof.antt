@@ -10,8 +10,8 @@ use borrow.Author.Tests.{lt-leb, le-leb}
 use Rattle.apportion.specs.Grounds.{firstOf}
 use Rattle.book_words.specs.Book.{mostCategories, categories}
 use Rattle.book.specs.Calls.{openRefusal, openGrounds}
+use Rattle.apportion.proofs.Grounds.{passed, stopped}
 use Rattle.book_words.proofs.Facts.{sound-counted}
-use Rattle.book.proofs.Refusing.{passed, stopped}
 use Rattle.book.proofs.opening.refusal_number.Statement.{statement}
 use Rattle.book.proofs.opening.refusal_number.Tie as tie
 

@@ -11,8 +11,10 @@ use Rattle.apportion.specs.Grounds.{firstOf}
 use Rattle.book_words.specs.Book.{mostEntries, entries}
 use Rattle.book_words.specs.Measures.{unsuitedGroup}
 use Rattle.book.specs.Calls.{postRefusal, postGrounds}
+use Rattle.apportion.proofs.Grounds.{passed, stopped}
 use Rattle.book_words.proofs.Facts.{sound-counted}
-use Rattle.book.proofs.Refusing.{passed, was-open, of-kind, post-passes, stopped, was-closed}
+use Rattle.book_words.proofs.Numbered.{was-open, of-kind, was-closed}
+use Rattle.book.proofs.Refusing.{post-passes}
 use Rattle.book.proofs.posting.refusal_number.Statement.{statement}
 use Rattle.book.proofs.posting.refusal_number.Tie as tie
 

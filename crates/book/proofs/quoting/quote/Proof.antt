@@ -5,7 +5,8 @@ use native.Mathlib.Omega.{arith}
 use borrow.Author.Needs.{needs}
 use borrow.Author.Tests.{not-true, not-false}
 use Rattle.book.specs.Calls.{quoteReply, quoteBook, quoteRefusal}
-use Rattle.book.proofs.Refusing.{call-refused, stopped}
+use Rattle.apportion.proofs.Grounds.{stopped}
+use Rattle.book.proofs.Refusing.{call-refused}
 use Rattle.book.proofs.quoting.quote.Statement.{statement}
 use Rattle.book.proofs.quoting.quote.Tie as tie
 

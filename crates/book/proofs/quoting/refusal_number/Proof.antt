@@ -12,10 +12,11 @@ use Rattle.apportion.specs.Grounds.{firstOf}
 use Rattle.book_words.specs.Book.{mostElements, elements}
 use Rattle.book_words.specs.Measures.{isAmount, isDistance, isIntensity}
 use Rattle.book.specs.Calls.{quoteRefusal, quoteGrounds}
+use Rattle.apportion.proofs.Grounds.{passed, stopped}
 use Rattle.book_words.proofs.Booleans.{both}
 use Rattle.book_words.proofs.Facts.{sound-counted}
 use Rattle.book.proofs.Quotes.{quotable}
-use Rattle.book.proofs.Refusing.{passed, not-is4, quote-passes, stopped}
+use Rattle.book.proofs.Refusing.{not-is4, quote-passes}
 use Rattle.book.proofs.quoting.refusal_number.Statement.{statement}
 use Rattle.book.proofs.quoting.refusal_number.Tie as tie
 

@@ -8,8 +8,9 @@ use lib.ListN.{drop}
 use borrow.Author.Needs.{needs}
 use Rattle.apportion.specs.Grounds.{firstOf}
 use Rattle.book.specs.Calls.{strikeRefusal, strikeGrounds}
+use Rattle.apportion.proofs.Grounds.{passed, stopped}
 use Rattle.book_words.proofs.Facts.{sound-counted}
-use Rattle.book.proofs.Refusing.{passed, strike-closed, stopped}
+use Rattle.book.proofs.Refusing.{strike-closed}
 use Rattle.book.proofs.striking.refusal_number.Statement.{statement}
 use Rattle.book.proofs.striking.refusal_number.Tie as tie
 

@@ -4,7 +4,7 @@ use mathlib.Core.Path.{sym, _∙_, ap}
 use borrow.Author.Needs.{needs}
 use borrow.Author.Tests.{not-true, not-false}
 use Rattle.book.specs.Calls.{strikeBook, strikeRefusal}
-use Rattle.book.proofs.Refusing.{stopped}
+use Rattle.apportion.proofs.Grounds.{stopped}
 use Rattle.book.proofs.striking.strike.Statement.{statement}
 use Rattle.book.proofs.striking.strike.Tie as tie
 

@@ -1,7 +1,9 @@
 -- `book_words::totals::passes_amounts` meets its contract: a capped sum passes the limit as the sum does.
 -- Assumes nothing.
 use Prim.Native.Nat.{_+_}
+use native.Mathlib.Omega.{arith}
 use borrow.Author.Needs.{needs}
+use Rattle.apportion.specs.Dividing.{largest}
 use Rattle.book_words.specs.Totals.{emitted, operation, provision}
 use Rattle.book_words.proofs.Capping.{capped-add, capped-over}
 use Rattle.book_words.proofs.Facts.{sound-counted}
@@ -26,8 +28,8 @@ returns c =
       c .before .before .emitted .ensures,
       capped-add (emitted ws operation) (c .before .before .before .before .args .by-operation),
       capped-add (emitted ws provision) (c .before .before .before .before .args .by-provision),
-      capped-over (emitted ws operation + c .before .before .before .before .args .by-operation),
-      capped-over (emitted ws provision + c .before .before .before .before .args .by-provision),
+      capped-over largest (emitted ws operation + c .before .before .before .before .args .by-operation) (omega arith),
+      capped-over largest (emitted ws provision + c .before .before .before .before .args .by-provision) (omega arith),
     )
 
 pub passes-amounts-spec : {M : Type 1} → statement M

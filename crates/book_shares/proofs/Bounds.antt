@@ -1,0 +1,152 @@
+-- The sums of a category in a sound book are within their limits. Assumes nothing.
+use mathlib.Core.Bool.{Bool, cond, true, false}
+use mathlib.Core.List.{List}
+use mathlib.Core.Path.{_≡_, refl}
+use Prim.Native.Nat.{ℕ, _≤_, _<_, _*_, _+_, zero, suc}
+use native.Mathlib.Nat.{le-trans}
+use native.Mathlib.Omega.{arith}
+use lib.Dec.{eqb, leb}
+use borrow.Author.Tests.{leb-true, lt-leb}
+use Rattle.apportion.specs.Dividing.{largest}
+use Rattle.apportion.specs.Places.{at}
+use Rattle.book_words.specs.Book.{elements, elementAt, entries, entryAt}
+use Rattle.book_words.specs.Measures.{massActivity, between, isFreight}
+use Rattle.book_words.specs.Soundness.{sound}
+use Rattle.book_words.specs.Totals.{Side, allUnstruck, unstruck, activities, mostActivity, unstruckOf}
+use Rattle.book_words.specs.declared.records.Element.{Element}
+use Rattle.book_words.specs.declared.records.Entry.{Entry}
+use Rattle.book_shares.specs.declared.weights.Codes.{Codes}
+use Rattle.book_shares.specs.Sums.{pool, pooled, activityAmong, among, freight, passengerMass, passengers}
+use Rattle.apportion.proofs.Sums.{sum-le, sum-mul, sum-add, sum-cong}
+use Rattle.book_words.proofs.Booleans.{and-false}
+use Rattle.book_words.proofs.Ranges.{between-low}
+use Rattle.book_words.proofs.Wholes.{Whole, sound-whole}
+use Rattle.book_shares.proofs.Members.{Measured, fine-measured, tenfold, at-least-mass, entry-grouped}
+
+-- what a part of a sum adds is no more than the whole
+pub only : (t : Bool) (n : ℕ) → cond t n 0 ≤ n
+only true n = omega arith
+only false n = omega arith
+
+module _ (ws : List ℕ) (fine : sound ws ≡ true) where
+  abbrev whole : Whole ws
+  whole = sound-whole ws fine
+
+  -- the element at a place
+  pub at-place : (p : ℕ) → p < elements ws → Measured (elementAt ws p)
+  at-place p h = fine-measured ws (elementAt ws p) (whole .each-element p h)
+
+  module _ (category : ℕ) where
+    pub pool-limited : (group : ℕ) (side : Side) → pool ws category group side ≤ largest
+    unfolding pool allUnstruck
+    pool-limited group side =
+        omega (
+          arith,
+          whole .limited side,
+          sum-le (entries ws)
+              (λ p. pooled category group side (entryAt ws p))
+              (λ p. unstruck side (entryAt ws p))
+              (λ p i. le-trans (only (eqb (entryAt ws p .category) category) _) (only (eqb (entryAt ws p .group) group) _)),
+        )
+
+    pub activity-limited : (codes : Codes) → activityAmong ws category codes ≤ largest
+    unfolding activityAmong activities
+    activity-limited codes =
+        let most =
+        sum-le (elements ws)
+        (λ p. among category codes (λ e. e .activity) (elementAt ws p))
+        (λ p. 10 * massActivity (elementAt ws p))
+        (λ p h.
+        le-trans
+        (le-trans
+        (only (eqb (elementAt ws p .category) category) _)
+        (only (between (codes .first) (codes .last) (elementAt ws p .code)) _))
+        (tenfold (elementAt ws p) (at-place p h))) in
+        omega (arith, most, sum-mul (elements ws) 10 (λ p. massActivity (elementAt ws p)), whole .active)
+
+    -- F + P is part of the activity of ground 10
+    pub served-limited : activityAmong ws category freight + passengerMass ws category ≤ mostActivity
+    unfolding activityAmong passengerMass activities massActivity
+    served-limited =
+        let f : ℕ → ℕ = λ p. among category freight (λ e. e .activity) (elementAt ws p) in
+        let g : ℕ → ℕ = λ p. among category passengers (λ e. e .amount * 100 * e .distance) (elementAt ws p) in
+        omega (
+          arith,
+          sum-add (elements ws) f g,
+          sum-le (elements ws) (λ p. f p + g p) (λ p. massActivity (elementAt ws p)) (λ p h. one (elementAt ws p)),
+          whole .active,
+        )
+      where
+        one : (e : Element) → among category freight (λ x. x .activity) e + among category passengers (λ x. x .amount * 100 * x .distance) e ≤ massActivity e
+        one e = go (eqb (e .category) category) (isFreight (e .code)) refl
+          where
+            go : (t f : Bool) → isFreight (e .code) ≡ f
+                → cond t (cond (between 0 2 (e .code)) (e .activity) 0) 0 + cond t (cond (between 100 1000 (e .code)) (e .amount * 100 * e .distance) 0) 0
+                ≤ cond f (e .activity) (e .amount * 100 * e .distance)
+            go false f p = omega arith
+            go true true p =
+                let low = leb-true (e .code) 2 p in
+                rw (lt-leb 100 (e .code) (omega arith)) (omega (arith, only (between 0 2 (e .code)) (e .activity)))
+            go true false p =
+                let none : between 0 2 (e .code) ≡ false = and-false (leb 0 (e .code)) (leb (e .code) 2) p in
+                rw none (omega (arith, only (between 100 1000 (e .code)) (e .amount * 100 * e .distance)))
+
+    -- C is at least P, and at most ten times P
+    pub mass-least : passengerMass ws category ≤ activityAmong ws category passengers
+    unfolding activityAmong passengerMass
+    mass-least =
+        sum-le (elements ws)
+        (λ p. among category passengers (λ e. e .amount * 100 * e .distance) (elementAt ws p))
+        (λ p. among category passengers (λ e. e .activity) (elementAt ws p))
+        (λ p h. one (elementAt ws p) (at-place p h))
+      where
+        one : (e : Element) → Measured e → among category passengers (λ x. x .amount * 100 * x .distance) e ≤ among category passengers (λ x. x .activity) e
+        one e m = go (eqb (e .category) category) (between 100 1000 (e .code)) refl
+          where
+            go : (t b : Bool) → between 100 1000 (e .code) ≡ b → cond t (cond b (e .amount * 100 * e .distance) 0) 0 ≤ cond t (cond b (e .activity) 0) 0
+            go false b p = omega arith
+            go true false p = omega arith
+            go true true p = at-least-mass e m (lt-leb (e .code) 2 (omega (arith, between-low 100 1000 (e .code) p)))
+
+    pub mass-tenth : activityAmong ws category passengers ≤ 10 * passengerMass ws category
+    unfolding activityAmong passengerMass massActivity
+    mass-tenth =
+        let g : ℕ → ℕ = λ p. among category passengers (λ e. e .amount * 100 * e .distance) (elementAt ws p) in
+        omega (
+          arith,
+          sum-mul (elements ws) 10 g,
+          sum-le (elements ws) (λ p. among category passengers (λ e. e .activity) (elementAt ws p)) (λ p. 10 * g p) (λ p h. one (elementAt ws p) (at-place p h)),
+        )
+      where
+        one : (e : Element) → Measured e → among category passengers (λ x. x .activity) e ≤ 10 * among category passengers (λ x. x .amount * 100 * x .distance) e
+        one e m = go (eqb (e .category) category) (between 100 1000 (e .code)) refl
+          where
+            go : (t b : Bool) → between 100 1000 (e .code) ≡ b → cond t (cond b (e .activity) 0) 0 ≤ 10 * cond t (cond b (e .amount * 100 * e .distance) 0) 0
+            go false b p = omega arith
+            go true false p = omega arith
+            go true true p = rw (lt-leb (e .code) 2 (omega (arith, between-low 100 1000 (e .code) p))) at (tenfold e m)
+
+    -- A, B1 and B2 are the category's unstruck entries
+    pub pools-add : (side : Side) → pool ws category 0 side + pool ws category 1 side + pool ws category 2 side ≡ unstruckOf ws category side
+    unfolding pool unstruckOf
+    pools-add side =
+        let f : ℕ → ℕ → ℕ = λ g p. pooled category g side (entryAt ws p) in
+        omega (
+          arith,
+          sum-add (entries ws) (f 0) (f 1),
+          sum-add (entries ws) (λ p. f 0 p + f 1 p) (f 2),
+          sum-cong (entries ws) (λ p. f 0 p + f 1 p + f 2 p) (λ p. cond (eqb (entryAt ws p .category) category) (unstruck side (entryAt ws p)) 0)
+              (λ p h. one (entryAt ws p) (entry-grouped ws (entryAt ws p) (whole .each-entry p h))),
+        )
+      where
+        one : (e : Entry) → e .group ≤ 2 → pooled category 0 side e + pooled category 1 side e + pooled category 2 side e ≡ cond (eqb (e .category) category) (unstruck side e) 0
+        one e h = go (eqb (e .category) category) (e .group) h
+          where
+            go : (t : Bool) (g : ℕ) → g ≤ 2
+                → cond t (cond (eqb g 0) (unstruck side e) 0) 0 + cond t (cond (eqb g 1) (unstruck side e) 0) 0 + cond t (cond (eqb g 2) (unstruck side e) 0) 0
+                ≡ cond t (unstruck side e) 0
+            go false g h = refl
+            go true zero h = omega arith
+            go true (suc zero) h = omega arith
+            go true (suc (suc zero)) h = omega arith
+            go true (suc (suc (suc n))) h = let z : ⊥ = omega arith in absurd z

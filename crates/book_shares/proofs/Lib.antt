@@ -1,0 +1,11 @@
+-- What the proofs over closings and intensities share, and the laws of closings.
+pub mod Members
+pub mod Bounds
+pub mod Among
+pub mod Quotients
+pub mod Nearness
+pub mod Shared
+pub mod Results
+pub mod Closed
+pub mod Closable
+pub mod Keeps

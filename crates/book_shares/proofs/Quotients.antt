@@ -1,0 +1,81 @@
+-- A quotient that is made ten by ten, as by hand. Assumes nothing.
+use mathlib.Core.Logic.{⊎-elim}
+use mathlib.Core.Path.{_≡_, _∙_, ap, refl}
+use Prim.Native.Nat.{ℕ, _<_, _*_, _+_, _/_, _%_, _≤_, _-_, _^_, zero, suc}
+use native.Mathlib.Nat.{mul-add-div-right, div-eq-of-lt, add-zero, mul-add-mod-self-right, mod-eq-of-lt, div-add-mod', mod-lt, pow-suc}
+use native.Mathlib.Numerals.{sub-one}
+use native.Mathlib.Omega.{arith}
+use Rattle.apportion.specs.Places.{at}
+use Rattle.book_words.specs.Measures.{nearest}
+use Rattle.book_words.specs.Totals.{capped}
+use Rattle.apportion.proofs.Sums.{below-or-not}
+use Rattle.book_words.proofs.Capping.{capped-times, capped-add}
+
+-- a number by its quotient and its remainder
+div-of : (q r t : ℕ) → r < t → (q * t + r) / t ≡ q
+div-of q r t h =
+    let some : 0 < t = omega arith in
+    mul-add-div-right some q r ∙ rw (div-eq-of-lt h) (add-zero q)
+
+mod-of : (q r t : ℕ) → r < t → (q * t + r) % t ≡ r
+mod-of q r t h = mul-add-mod-self-right q t r ∙ mod-eq-of-lt h
+
+-- a quotient and twice its remainder, rounded down, is the quotient rounded to nearest, halves up
+pub halves-up : (q r t : ℕ) → r < t → q + 2 * r / t ≡ nearest (q * t + r) t
+halves-up q r t h =
+    ⊎-elim
+    (λ (l : 2 * r < t).
+    let whole : 2 * (q * t + r) + t ≡ q * (2 * t) + (2 * r + t) = omega arith in
+    rw (div-eq-of-lt l, whole, div-of q (2 * r + t) (2 * t) (omega arith)) (add-zero q))
+    (λ (g : t ≤ 2 * r).
+    let twice : 2 * r ≡ 1 * t + (2 * r - t) = omega arith in
+    let whole : 2 * (q * t + r) + t ≡ (q + 1) * (2 * t) + (2 * r - t) = omega arith in
+    let one : 2 * r / t ≡ 1 = ap (λ (n : ℕ). n / t) twice ∙ div-of 1 (2 * r - t) t (omega arith) in
+    rw (one, whole, div-of (q + 1) (2 * r - t) (2 * t) (omega arith)))
+    (below-or-not (2 * r) t)
+
+-- so far `shifted`, the amount with some of its tens, is divided; `left` tens are still to come
+pub record Shifting (amount tens total whole rest left : ℕ) : Type 0 where
+  pub shifted : ℕ
+  pub exact : ℕ
+  pub is : shifted * 10 ^ left ≡ amount * 10 ^ tens
+  pub parts : exact * total + rest ≡ shifted
+  pub less : rest < total
+  pub whole-is : whole ≡ capped exact
+
+pub shifting-start : {amount tens total whole : ℕ} → 0 < total → whole ≡ capped (amount / total + 0) → Shifting amount tens total whole (amount % total) tens
+shifting-start {amount} {tens} {total} {whole} some e =
+    record {
+      shifted = amount;
+      exact = amount / total;
+      is = refl;
+      parts = div-add-mod' amount total;
+      less = mod-lt amount some;
+      whole-is = e ∙ ap capped (add-zero (amount / total));
+    }
+
+-- one ten more
+pub shifting-next : {amount tens total whole rest left more next : ℕ} → Shifting amount tens total whole rest left → 0 < total → 0 < left
+    → more ≡ capped (whole * 10) → next ≡ capped (more + rest * 10 / total)
+    → Shifting amount tens total next (rest * 10 % total) (left - 1)
+shifting-next {amount} {tens} {total} {whole} {rest} {left} {more} {next} s some h m e =
+    record {
+      shifted = s .shifted * 10;
+      exact = s .exact * 10 + rest * 10 / total;
+      is = again left h (s .is);
+      parts = omega (arith, s .parts, div-add-mod' (rest * 10) total);
+      less = mod-lt (rest * 10) some;
+      whole-is = e ∙ rw (m, s .whole-is, capped-times (s .exact) 10) (capped-add (s .exact * 10) (rest * 10 / total));
+    }
+  where
+    again : (left : ℕ) → 0 < left → s .shifted * 10 ^ left ≡ amount * 10 ^ tens → s .shifted * 10 * 10 ^ (left - 1) ≡ amount * 10 ^ tens
+    again zero h p = let z : ⊥ = omega arith in absurd z
+    again (suc left) h p = let tenth : 10 ^ suc left ≡ 10 ^ left * 10 = pow-suc 10 left in
+        rw sub-one (omega (arith, p, ap (λ (n : ℕ). s .shifted * n) tenth))
+
+pub shifting-done : {amount tens total whole rest left last : ℕ} → Shifting amount tens total whole rest left → left ≡ 0
+    → last ≡ capped (whole + 2 * rest / total) → last ≡ capped (nearest (amount * 10 ^ tens) total)
+shifting-done {amount} {tens} {total} {whole} {rest} {left} {last} s end e =
+    let one : s .shifted * 10 ^ 0 ≡ amount * 10 ^ tens = rw end at (s .is) in
+    let all : s .exact * total + rest ≡ amount * 10 ^ tens = omega (arith, s .parts, one) in
+    e ∙ rw (s .whole-is, capped-add (s .exact) (2 * rest / total), halves-up (s .exact) rest total (s .less), all)

@@ -1,0 +1,141 @@
+-- What holds where an intensity is wanted, and its results by their quotients. Assumes nothing.
+use mathlib.Core.Bool.{Bool, _||_, not, _&&_, false, true}
+use mathlib.Core.List.{List}
+use mathlib.Core.Logic.{⊎-elim}
+use mathlib.Core.Path.{_≡_, _∙_}
+use Prim.Native.Nat.{ℕ, _<_, _*_, _^_, _+_, _≤_, zero, suc}
+use native.Mathlib.Nat.{eq-zero-or-pos, add-zero}
+use native.Mathlib.Omega.{arith}
+use lib.Dec.{eqb, ltb}
+use borrow.Author.Tests.{eqb-false, eq-eqb, ne-eqb, not-false, ltb-false}
+use Rattle.apportion.specs.Grounds.{accepted}
+use Rattle.apportion.specs.Places.{at}
+use Rattle.book_words.specs.Book.{categoryOf, categories, unnumbered, isClosed}
+use Rattle.book_words.specs.Measures.{nearest, between}
+use Rattle.book_words.specs.Soundness.{sound}
+use Rattle.book_words.specs.Totals.{Side, capped, operation, provision}
+use Rattle.book_shares.specs.declared.intensities.Intensity.{Intensity}
+use Rattle.book_shares.specs.Dealing.{Served}
+use Rattle.book_shares.specs.Intensities.{idle, intensityOf, scale, mostResult, intensityRefusal, isIntensityCode, passesIntensity, intensityReply}
+use Rattle.book_shares.specs.Shares.{passengerPart, freightPart}
+use Rattle.book_shares.specs.Sums.{activityAmong, freight, ofGroup, passengers, pool}
+use Rattle.apportion.proofs.Grounds.{or-none, first-none}
+use Rattle.book_words.proofs.Capping.{capped-both, capped-small, capped-over}
+use Rattle.book_words.proofs.Kept.{same-or-not}
+use Rattle.book_shares.proofs.Bounds.{mass-tenth}
+use Rattle.book_shares.proofs.Closable.{nine}
+
+module _ (ws : List ℕ) (category code : ℕ) where
+  -- where ground 9 does not hold, there is an activity to divide by
+  lacks : Bool
+  lacks = eqb (activityAmong ws category freight) 0 || (not (eqb code 0) && eqb (activityAmong ws category (ofGroup code)) 0)
+
+  some : (n : ℕ) → eqb n 0 ≡ false → 0 < n
+  some n e = ⊎-elim (λ (none : n ≡ 0). absurd (eqb-false n 0 e none)) (λ (l : 0 < n). l) (eq-zero-or-pos n)
+
+  pub some-passengers : idle ws category code ≡ false → code ≡ 100 → 0 < activityAmong ws category passengers
+  some-passengers h is = some (activityAmong ws category passengers) (rw (eq-eqb code 100 is) at h)
+
+  freight-parts : idle ws category code ≡ false → (code ≡ 100 → ⊥)
+      → (eqb (activityAmong ws category freight) 0 ≡ false) × (not (eqb code 0) && eqb (activityAmong ws category (ofGroup code)) 0 ≡ false)
+  freight-parts h other =
+      or-none (eqb (activityAmong ws category freight) 0) (not (eqb code 0) && eqb (activityAmong ws category (ofGroup code)) 0)
+      (rw (ne-eqb code 100 other) at h)
+
+  pub some-freight : idle ws category code ≡ false → (code ≡ 100 → ⊥) → 0 < activityAmong ws category freight
+  some-freight h other = some (activityAmong ws category freight) (freight-parts h other .0)
+
+  pub some-group : idle ws category code ≡ false → (code ≡ 100 → ⊥) → (code ≡ 0 → ⊥) → 0 < activityAmong ws category (ofGroup code)
+  some-group h other grouped = some (activityAmong ws category (ofGroup code)) (rw (ne-eqb code 0 grouped) at (freight-parts h other .1))
+
+  pub idle-served : sound ws ≡ true → idle ws category code ≡ false → Served ws category
+  idle-served fine h =
+      ⊎-elim
+      (λ (is : code ≡ 100). omega (arith, some-passengers h is, mass-tenth ws fine category))
+      (λ (other : code ≡ 100 → ⊥). omega (arith, some-freight h other))
+      (same-or-not code 100)
+
+  -- the results, as the code makes them
+  module _ (side : Side) where
+    pub passengers-result : (amount total r : ℕ) → code ≡ 100 → amount ≡ passengerPart ws category side → total ≡ activityAmong ws category passengers
+        → r ≡ capped (nearest (amount * 100) total) → r ≡ capped (intensityOf ws category code side)
+    unfolding intensityOf
+    passengers-result amount total r is e f g = rw (← e, ← f, eq-eqb code 100 is) g
+
+    module _ (tens amount total first : ℕ) (other : code ≡ 100 → ⊥) (unit : 10 ^ tens ≡ scale (categoryOf ws category .kind))
+        (e : amount ≡ freightPart ws category side) (f : total ≡ activityAmong ws category freight) (g : first ≡ capped (nearest (amount * 10 ^ tens) total)) where
+      pub freight-result : code ≡ 0 → first ≡ capped (intensityOf ws category code side)
+      unfolding intensityOf
+      freight-result none = rw (← e, ← f, ← unit, ne-eqb code 100 other, eq-eqb code 0 none, add-zero) g
+
+      pub group-result : (more share second r : ℕ) → (code ≡ 0 → ⊥) → more ≡ pool ws category code side → share ≡ activityAmong ws category (ofGroup code)
+          → second ≡ capped (nearest (more * 10 ^ tens) share) → r ≡ capped (first + second) → r ≡ capped (intensityOf ws category code side)
+      unfolding intensityOf
+      group-result more share second r grouped h i j k =
+          let sum : capped (first + second) ≡ capped (nearest (amount * 10 ^ tens) total + nearest (more * 10 ^ tens) share) =
+          rw (g, j) (capped-both (nearest (amount * 10 ^ tens) total) (nearest (more * 10 ^ tens) share)) in
+          rw (← e, ← f, ← h, ← i, ← unit, ne-eqb code 100 other, ne-eqb code 0 grouped) (k ∙ sum)
+
+  -- where no ground holds
+  pub record Accepted : Type 0 where
+    pub fine : sound ws ≡ true
+    pub numbered : between 1 (categories ws) category ≡ true
+    pub busy : idle ws category code ≡ false
+    pub within : (side : Side) → intensityOf ws category code side ≤ mostResult
+
+  pub intensity-accepted : intensityRefusal ws category code ≡ 0 → Accepted
+  unfolding intensityRefusal
+  intensity-accepted e =
+      let one = first-none 0 (not (sound ws)) _ e in
+      let two = first-none 1 (unnumbered (categories ws) category) _ (one .1) in
+      let three = first-none 2 (not (isIntensityCode code)) _ (two .1) in
+      let five = first-none 4 (not (isClosed ws category)) _ (three .1) in
+      let nine = first-none 8 (idle ws category code) _ (five .1) in
+      let ten = first-none 9 (passesIntensity ws category code) _ (nine .1) in
+      let past = or-none (ltb mostResult (intensityOf ws category code operation)) (ltb mostResult (intensityOf ws category code provision)) (ten .0) in
+      record {
+        fine = not-false (sound ws) (one .0);
+        numbered = not-false (between 1 (categories ws) category) (two .0);
+        busy = nine .0;
+        within = most past;
+      }
+    where
+      most : (ltb mostResult (intensityOf ws category code operation) ≡ false) × (ltb mostResult (intensityOf ws category code provision) ≡ false)
+          → (side : Side) → intensityOf ws category code side ≤ mostResult
+      most p operation = ltb-false mostResult (intensityOf ws category code operation) (p .0)
+      most p provision = ltb-false mostResult (intensityOf ws category code provision) (p .1)
+
+  -- a result of an accepted call is not capped
+  pub uncapped : Accepted → (side : Side) (r : ℕ) → r ≡ capped (intensityOf ws category code side) → r ≡ intensityOf ws category code side
+  uncapped a side r e = e ∙ capped-small (intensityOf ws category code side) (omega (arith, a .within side))
+
+  -- ground 10, from the capped results
+  pub ten : (a b : ℕ) → a ≡ capped (intensityOf ws category code operation) → b ≡ capped (intensityOf ws category code provision)
+      → passesIntensity ws category code ≡ ltb mostResult a || ltb mostResult b
+  ten a b e f =
+      rw (
+        e,
+        f,
+        capped-over mostResult (intensityOf ws category code operation) (omega arith),
+        capped-over mostResult (intensityOf ws category code provision) (omega arith),
+      )
+
+  -- the reply of a refused call, and that of an accepted one
+  pub reply-refused : (n : ℕ) → n ≡ intensityRefusal ws category code → (n ≡ 0 → ⊥) → record { refusal = n; operation = 0; provision = 0 } ≡ intensityReply ws category code
+  unfolding intensityReply
+  reply-refused n is ne = go n (intensityRefusal ws category code) is ne
+    where
+      go : (n m : ℕ) → n ≡ m → (n ≡ 0 → ⊥)
+          → _≡_ {A = Intensity} (record { refusal = n; operation = 0; provision = 0 })
+          (record {
+            refusal = m;
+            operation = accepted m (intensityOf ws category code operation) 0;
+            provision = accepted m (intensityOf ws category code provision) 0;
+          })
+      go n zero e h = absurd (h e)
+      go n (suc m) e h = rw e
+
+  pub reply-accepted : (a b : ℕ) → intensityRefusal ws category code ≡ 0 → a ≡ intensityOf ws category code operation → b ≡ intensityOf ws category code provision
+      → record { refusal = 0; operation = a; provision = b } ≡ intensityReply ws category code
+  unfolding intensityReply
+  reply-accepted a b none e f = rw (none, e, f)

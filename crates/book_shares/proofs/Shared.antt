@@ -1,0 +1,342 @@
+-- The laws of the shares that a closing deals out. Assumes nothing.
+use mathlib.Core.Bool.{Bool, _&&_, true, false, cond}
+use mathlib.Core.List.{List, _∷_, []}
+use mathlib.Core.Logic.{_⊎_, inl, inr, ⊎-elim}
+use mathlib.Core.Path.{_≡_, refl, sym, ap, _∙_}
+use Prim.Native.Nat.{ℕ, _+_, _*_, _≤_, _<_}
+use native.Mathlib.Nat.{eq-zero-or-pos, eq-or-lt-of-le}
+use native.Mathlib.Omega.{arith}
+use lib.Dec.{eqb, leb}
+use lib.ListN.{length}
+use borrow.Author.Tests.{eq-eqb, ne-eqb, le-leb, lt-leb}
+use Rattle.apportion.specs.Dividing.{divided, Divisible}
+use Rattle.apportion.specs.Nearness.{Within}
+use Rattle.apportion.specs.Places.{sumBelow, at, sumOf, kept}
+use Rattle.book_words.specs.Book.{elements, elementAt}
+use Rattle.book_words.specs.Measures.{between, isCode}
+use Rattle.book_words.specs.Totals.{Side}
+use Rattle.book_shares.specs.declared.weights.Codes.{Codes}
+use Rattle.book_shares.specs.Dealing.{Served}
+use Rattle.book_shares.specs.Shares.{dividedAll, freightPart, passengerPart, weights, partAt, closingShare, over, plus, exactShare, exactIn}
+use Rattle.book_shares.specs.Sums.{pool, freight, passengers, ofGroup, among, activityAmong, passengerMass}
+use Rattle.apportion.proofs.Laws.{shares-length, shares-sum, share-of-zero, share-near, divided-kept}
+use Rattle.apportion.proofs.Lists.{list-length, list-at, list-past, list-sum}
+use Rattle.apportion.proofs.Sums.{below-or-not, sum-add, sum-some}
+use Rattle.book_words.proofs.Booleans.{and-both, and-false}
+use Rattle.book_shares.proofs.Nearness.{near-chain, near-cancel, near-plus, near-weaken}
+
+-- a number in a range, and one that is not
+pub between-inside : (low high n : ℕ) → low ≤ n → n ≤ high → between low high n ≡ true
+between-inside low high n l h = and-both (leb low n) (leb n high) (le-leb low n l) (le-leb n high h)
+
+pub between-outside : (low high n : ℕ) → (n < low) ⊎ (high < n) → between low high n ≡ false
+between-outside low high n =
+    ⊎-elim
+    (λ (l : n < low). rw (lt-leb low n l))
+    (λ (h : high < n). and-false (leb low n) (leb n high) (lt-leb n high h))
+
+-- two tests, one inside the other, are the two joined
+pub cond-both : (a b : Bool) (n : ℕ) → cond a (cond b n 0) 0 ≡ cond (a && b) n 0
+cond-both true b n = refl
+cond-both false b n = refl
+
+-- the sum of a list of two
+pub sum-two : (xs : List ℕ) → length xs ≡ 2 → sumOf xs ≡ at xs 0 + at xs 1
+unfolding sumOf
+sum-two xs e = rw e (omega arith)
+
+-- the exact share by its code
+module _ (A F P C : ℕ) (B S : ℕ → ℕ) (code activity : ℕ) where
+  exact-ambient : code ≡ 0 → exactShare A F P C B S code activity ≡ over (A * activity) (F + P)
+  unfolding exactShare
+  exact-ambient e = rw e
+
+  exact-grouped : 0 < code → code ≤ 2
+      → exactShare A F P C B S code activity ≡ plus (over (A * activity) (F + P)) (over (B code * activity) (S code))
+  unfolding exactShare
+  exact-grouped some l = rw (le-leb code 2 l, ne-eqb code 0 (λ e. omega arith))
+
+  exact-passengers : 2 < code → exactShare A F P C B S code activity ≡ over (A * P * activity) ((F + P) * C)
+  unfolding exactShare
+  exact-passengers g = rw (lt-leb code 2 g)
+
+-- the elements that a pool goes to, and what each gets of it
+module _ (ws : List ℕ) (category : ℕ) (codes : Codes) where
+  -- the pool goes to the element at this place: it is of the category and has one of the codes
+  abbrev pub goesTo : ℕ → Bool
+  goesTo p = eqb (elementAt ws p .category) category && between (codes .first) (codes .last) (elementAt ws p .code)
+
+  pub goes-here : (p : ℕ) → elementAt ws p .category ≡ category → between (codes .first) (codes .last) (elementAt ws p .code) ≡ true → goesTo p ≡ true
+  goes-here p same e =
+      and-both (eqb (elementAt ws p .category) category) (between (codes .first) (codes .last) (elementAt ws p .code))
+      (eq-eqb (elementAt ws p .category) category same) e
+
+  pub goes-elsewhere : (p : ℕ) → (elementAt ws p .category ≡ category → ⊥) → goesTo p ≡ false
+  goes-elsewhere p other = rw (ne-eqb (elementAt ws p .category) category other)
+
+  pub goes-outside : (p : ℕ) → (elementAt ws p .code < codes .first) ⊎ (codes .last < elementAt ws p .code) → goesTo p ≡ false
+  goes-outside p other =
+      and-false (eqb (elementAt ws p .category) category) (between (codes .first) (codes .last) (elementAt ws p .code))
+      (between-outside (codes .first) (codes .last) (elementAt ws p .code) other)
+
+  -- the weight of the element at this place
+  abbrev weight : ℕ → ℕ
+  weight p = among category codes (λ e. e .activity) (elementAt ws p)
+
+  -- there is a weight for every element, and together they are the activity
+  pub weights-length : length (weights ws category codes) ≡ elements ws
+  unfolding weights
+  weights-length = list-length (elements ws) weight
+
+  pub weights-sum : sumOf (weights ws category codes) ≡ activityAmong ws category codes
+  unfolding weights activityAmong
+  weights-sum = list-sum (elements ws) weight
+
+  pub weight-at : (p : ℕ) → p < elements ws → at (weights ws category codes) p ≡ among category codes (λ e. e .activity) (elementAt ws p)
+  unfolding weights
+  weight-at p h = list-at (elements ws) weight p h
+
+  weight-goes : (p : ℕ) → weight p ≡ cond (goesTo p) (elementAt ws p .activity) 0
+  weight-goes p =
+      cond-both (eqb (elementAt ws p .category) category) (between (codes .first) (codes .last) (elementAt ws p .code))
+      (elementAt ws p .activity)
+
+  -- an element that the pool does not go to has weight 0, and so has a place past the elements
+  pub weight-none : (p : ℕ) → goesTo p ≡ false → at (weights ws category codes) p ≡ 0
+  unfolding weights
+  weight-none p e =
+      ⊎-elim
+      (λ (here : p < elements ws). weight-at p here ∙ weight-goes p ∙ (rw e))
+      (λ (past : elements ws ≤ p). list-past (elements ws) weight p past)
+      (below-or-not p (elements ws))
+
+  -- and it gets nothing
+  pub part-none : (amount : ℕ) → Divisible amount (weights ws category codes) → (p : ℕ) → goesTo p ≡ false → partAt ws category codes amount p ≡ 0
+  unfolding partAt
+  part-none amount divisible p e = share-of-zero amount (weights ws category codes) divisible p (weight-none p e)
+
+  -- the elements that a pool goes to get what they would get alone
+  pub alone : (amount : ℕ) → Divisible amount (weights ws category codes)
+      → kept goesTo (divided amount (weights ws category codes)) ≡ divided amount (kept goesTo (weights ws category codes))
+  alone amount divisible = sym (divided-kept amount (weights ws category codes) goesTo (λ p h e. weight-none p e) divisible)
+
+  -- all parts together are the pool
+  pub parts-sum : (amount : ℕ) → Divisible amount (weights ws category codes) → sumBelow (elements ws) (partAt ws category codes amount) ≡ amount
+  unfolding partAt sumOf
+  parts-sum amount divisible =
+      rw (shares-length amount (weights ws category codes), weights-length) at (shares-sum amount (weights ws category codes) divisible)
+
+  -- the activity of an element that the pool goes to is one of those that it is divided by
+  pub activity-within : (p : ℕ) → p < elements ws → goesTo p ≡ true → elementAt ws p .activity ≤ activityAmong ws category codes
+  unfolding activityAmong
+  activity-within p h e = rw (weight-goes p, e) at (sum-some (elements ws) weight p h)
+
+  -- and its part is near to its exact part of the pool
+  pub part-near : (amount p : ℕ) → p < elements ws → goesTo p ≡ true → 0 < elementAt ws p .activity
+      → Within 1 (partAt ws category codes amount p) (amount * elementAt ws p .activity) (activityAmong ws category codes)
+  unfolding partAt
+  part-near amount p h e some =
+      rw (weights-sum, weight-at p h, weight-goes p, e)
+      at (share-near amount (weights ws category codes) (rw weights-sum (omega (arith, activity-within p h e))) p)
+
+module _ (ws : List ℕ) (category : ℕ) (side : Side) where
+  -- what the four divisions of a closing need
+  pub record Handed : Type 0 where
+    pub served : Served ws category
+    pub freight-divisible : Divisible (freightPart ws category side) (weights ws category freight)
+    pub passengers-divisible : Divisible (passengerPart ws category side) (weights ws category passengers)
+    pub chilled-divisible : Divisible (pool ws category 1 side) (weights ws category (ofGroup 1))
+    pub frozen-divisible : Divisible (pool ws category 2 side) (weights ws category (ofGroup 2))
+
+  -- the two weights of A
+  abbrev both-weights : List ℕ
+  both-weights = activityAmong ws category freight ∷ passengerMass ws category ∷ []
+
+  both-some : Served ws category → 0 < sumOf both-weights
+  both-some served = rw (sum-two both-weights refl) served
+
+  -- A is divided whole
+  pub parts-add : Served ws category → freightPart ws category side + passengerPart ws category side ≡ pool ws category 0 side
+  unfolding dividedAll
+  parts-add served =
+      let A = pool ws category 0 side in
+      sym (sum-two (divided A both-weights) (shares-length A both-weights)) ∙ shares-sum A both-weights (inl (both-some served))
+
+  -- and each part of it is near to its exact part
+  all-near : Served ws category → (k : ℕ)
+      → Within 1 (at (dividedAll ws category side) k) (pool ws category 0 side * at both-weights k) (activityAmong ws category freight + passengerMass ws category)
+  unfolding dividedAll
+  all-near served k = rw (sum-two both-weights refl) at (share-near (pool ws category 0 side) both-weights (both-some served) k)
+
+  -- The shares of a closing sum to the unstruck entries.
+  pub shares-add : Handed → sumBelow (elements ws) (closingShare ws category side) ≡ pool ws category 0 side + pool ws category 1 side + pool ws category 2 side
+  unfolding closingShare
+  shares-add h =
+      let n = elements ws in
+      let a = partAt ws category freight (freightPart ws category side) in
+      let b = partAt ws category passengers (passengerPart ws category side) in
+      let c = partAt ws category (ofGroup 1) (pool ws category 1 side) in
+      let d = partAt ws category (ofGroup 2) (pool ws category 2 side) in
+      omega (
+        arith,
+        sum-add n (λ p. a p + b p + c p) d,
+        sum-add n (λ p. a p + b p) c,
+        sum-add n a b,
+        parts-sum ws category freight (freightPart ws category side) (h .freight-divisible),
+        parts-sum ws category passengers (passengerPart ws category side) (h .passengers-divisible),
+        parts-sum ws category (ofGroup 1) (pool ws category 1 side) (h .chilled-divisible),
+        parts-sum ws category (ofGroup 2) (pool ws category 2 side) (h .frozen-divisible),
+        parts-add (h .served),
+      )
+
+-- what an element gets of the freight part, of the passenger part, and of the pool of a group
+module _ (ws : List ℕ) (category : ℕ) (side : Side) (p : ℕ) where
+  abbrev freightShare : ℕ
+  freightShare = partAt ws category freight (freightPart ws category side) p
+
+  abbrev passengerShare : ℕ
+  passengerShare = partAt ws category passengers (passengerPart ws category side) p
+
+  abbrev groupShare : ℕ → ℕ
+  groupShare g = partAt ws category (ofGroup g) (pool ws category g side) p
+
+module _ (ws : List ℕ) (category : ℕ) (side : Side) (h : Handed ws category side) (p : ℕ) where
+  freight-none : goesTo ws category freight p ≡ false → freightShare ws category side p ≡ 0
+  freight-none = part-none ws category freight (freightPart ws category side) (h .freight-divisible) p
+
+  passengers-none : goesTo ws category passengers p ≡ false → passengerShare ws category side p ≡ 0
+  passengers-none = part-none ws category passengers (passengerPart ws category side) (h .passengers-divisible) p
+
+  chilled-none : goesTo ws category (ofGroup 1) p ≡ false → groupShare ws category side p 1 ≡ 0
+  chilled-none = part-none ws category (ofGroup 1) (pool ws category 1 side) (h .chilled-divisible) p
+
+  frozen-none : goesTo ws category (ofGroup 2) p ≡ false → groupShare ws category side p 2 ≡ 0
+  frozen-none = part-none ws category (ofGroup 2) (pool ws category 2 side) (h .frozen-divisible) p
+
+  -- An element of another category gets nothing.
+  pub share-elsewhere : (elementAt ws p .category ≡ category → ⊥) → closingShare ws category side p ≡ 0
+  unfolding closingShare
+  share-elsewhere other =
+      omega (
+        arith,
+        freight-none (goes-elsewhere ws category freight p other),
+        passengers-none (goes-elsewhere ws category passengers p other),
+        chilled-none (goes-elsewhere ws category (ofGroup 1) p other),
+        frozen-none (goes-elsewhere ws category (ofGroup 2) p other),
+      )
+
+-- an element of the category with an activity
+module _ (ws : List ℕ) (category : ℕ) (side : Side) (h : Handed ws category side) (p : ℕ) (here : p < elements ws)
+    (same : elementAt ws p .category ≡ category) (some : 0 < elementAt ws p .activity) where
+  abbrev code : ℕ
+  code = elementAt ws p .code
+
+  abbrev activity : ℕ
+  activity = elementAt ws p .activity
+
+  abbrev A : ℕ
+  A = pool ws category 0 side
+
+  abbrev F : ℕ
+  F = activityAmong ws category freight
+
+  abbrev P : ℕ
+  P = passengerMass ws category
+
+  -- its share of the freight part (k is 0) or of the passenger part (k is 1) of A
+  of-all-near : (k : ℕ) (codes : Codes) → goesTo ws category codes p ≡ true
+      → Within 2 (partAt ws category codes (at (dividedAll ws category side) k) p) (A * at (F ∷ P ∷ []) k * activity) ((F + P) * activityAmong ws category codes)
+  of-all-near k codes e =
+      near-chain (all-near ws category side (h .served) k)
+      (part-near ws category codes (at (dividedAll ws category side) k) p here e some)
+      (activity-within ws category codes p here e)
+
+  -- F, by which the freight part was found and is divided, cancels
+  freight-near : code ≤ 2 → Within 2 (freightShare ws category side p) (A * activity) (F + P)
+  freight-near l =
+      let near = of-all-near 0 freight (goes-here ws category freight p same (between-inside 0 2 code (omega arith) l)) in
+      near-cancel F (omega (arith, near))
+
+  -- chilled or frozen freight gets of its own group's pool alone
+  group-alone : 0 < code → code ≤ 2 → groupShare ws category side p 1 + groupShare ws category side p 2 ≡ groupShare ws category side p code
+  group-alone g l =
+      ⊎-elim
+      (λ (e : code ≡ 2).
+      omega (
+        arith,
+        chilled-none ws category side h p (goes-outside ws category (ofGroup 1) p (inr (omega arith))),
+        ap (groupShare ws category side p) e,
+      ))
+      (λ (e : code < 2).
+      let one : code ≡ 1 = omega arith in
+      omega (
+        arith,
+        frozen-none ws category side h p (goes-outside ws category (ofGroup 2) p (inl e)),
+        ap (groupShare ws category side p) one,
+      ))
+      (eq-or-lt-of-le l)
+
+  -- freight gets nothing of the passenger part, and ambient freight nothing of a group's pool
+  freight-alone : code ≤ 2
+      → closingShare ws category side p ≡ freightShare ws category side p + (groupShare ws category side p 1 + groupShare ws category side p 2)
+  unfolding closingShare
+  freight-alone l = omega (arith, passengers-none ws category side h p (goes-outside ws category passengers p (inl (omega arith))))
+
+  ambient-alone : code ≡ 0 → closingShare ws category side p ≡ freightShare ws category side p
+  ambient-alone e =
+      omega (
+        arith,
+        freight-alone (omega arith),
+        chilled-none ws category side h p (goes-outside ws category (ofGroup 1) p (inl (omega arith))),
+        frozen-none ws category side h p (goes-outside ws category (ofGroup 2) p (inl (omega arith))),
+      )
+
+  -- passengers get of the passenger part alone
+  passengers-alone : 2 < code → closingShare ws category side p ≡ passengerShare ws category side p
+  unfolding closingShare
+  passengers-alone g =
+      omega (
+        arith,
+        freight-none ws category side h p (goes-outside ws category freight p (inr g)),
+        chilled-none ws category side h p (goes-outside ws category (ofGroup 1) p (inr (omega arith))),
+        frozen-none ws category side h p (goes-outside ws category (ofGroup 2) p (inr g)),
+      )
+
+  -- its share is near to its exact share
+  abbrev Near : Type 0
+  Near =
+      Within 3 (closingShare ws category side p)
+      (exactIn ws category side (elementAt ws p) .numerator)
+      (exactIn ws category side (elementAt ws p) .denominator)
+
+  ambient-near : code ≡ 0 → Near
+  ambient-near e = rw (ambient-alone e, exact-ambient) (near-weaken (omega arith) (freight-near (omega arith)))
+
+  grouped-near : 0 < code → code ≤ 2 → Near
+  grouped-near g l =
+      rw (freight-alone l, group-alone g l, exact-grouped)
+      (near-plus (freight-near l)
+      (part-near ws category (ofGroup code) (pool ws category code side) p here
+      (goes-here ws category (ofGroup code) p same (between-inside code code code (omega arith) (omega arith)))
+      some))
+
+  passengers-near : 2 < code → between 100 1000 code ≡ true → Near
+  passengers-near g e =
+      rw (passengers-alone g, exact-passengers)
+      (near-weaken (omega arith) (of-all-near 1 passengers (goes-here ws category passengers p same e)))
+
+-- The share of an element of the category is less than three units from its exact share, both ways.
+pub share-within : (ws : List ℕ) (category : ℕ) (side : Side) → Handed ws category side → (p : ℕ) → p < elements ws
+    → elementAt ws p .category ≡ category → isCode (elementAt ws p .code) ≡ true → 0 < elementAt ws p .activity
+    → Within 3 (closingShare ws category side p)
+    (exactIn ws category side (elementAt ws p) .numerator)
+    (exactIn ws category side (elementAt ws p) .denominator)
+share-within ws category side h p here same known some =
+    ⊎-elim
+    (λ (l : elementAt ws p .code < 3).
+    ⊎-elim (ambient-near ws category side h p here same some)
+    (λ (g : 0 < elementAt ws p .code). grouped-near ws category side h p here same some g (omega arith))
+    (eq-zero-or-pos (elementAt ws p .code)))
+    (λ (g : 3 ≤ elementAt ws p .code).
+    passengers-near ws category side h p here same some g (rw (lt-leb (elementAt ws p .code) 2 g) at known))
+    (below-or-not (elementAt ws p .code) 3)

@@ -1,0 +1,63 @@
+use native.Mathlib.Omega.{arith}
+use lib.ListN.{length-set}
+use borrow.Author.Needs.{needs}
+use borrow.Author.Tests.{eq-eqb, ne-eqb}
+use Rattle.book_shares.proofs.closings.write_share.Statement.{statement}
+use Rattle.book_shares.proofs.closings.write_share.Tie as tie
+
+mul-at : tie.Need-mul-at
+mul-at c = search needs
+
+add-at : tie.Need-add-at
+add-at c = search needs
+
+mul-if1 : tie.Need-mul-if1
+mul-if1 c = search needs
+
+slice-read-if1 : tie.Need-slice-read-if1
+slice-read-if1 c = search needs
+
+add-book : tie.Need-add-book
+add-book c = search needs
+
+mul-book : tie.Need-mul-book
+mul-book c = search needs
+
+slice-write-book : tie.Need-slice-write-book
+slice-write-book c = search needs
+
+add-book-2 : tie.Need-add-book-2
+add-book-2 c = search needs
+
+mul-book-2 : tie.Need-mul-book-2
+mul-book-2 c = search needs
+
+slice-write-book-2 : tie.Need-slice-write-book-2
+slice-write-book-2 c = simp length-set (omega arith)
+
+same-length : tie.Need-same-length
+same-length c = search needs
+
+returns : tie.Need-returns
+returns c = rw (eq-eqb _ _ (c .if1 .taken))
+
+returns-2 : tie.Need-returns-2
+returns-2 c = rw (ne-eqb _ _ (c .if1 .left))
+
+pub write-share-spec : {M : Type 1} → statement M
+write-share-spec =
+    tie.close
+    (tie.spec
+    mul-at
+    add-at
+    mul-if1
+    slice-read-if1
+    add-book
+    mul-book
+    slice-write-book
+    add-book-2
+    mul-book-2
+    slice-write-book-2
+    same-length
+    returns
+    returns-2)

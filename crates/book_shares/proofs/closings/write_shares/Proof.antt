@@ -1,0 +1,80 @@
+use mathlib.Core.List.{List}
+use mathlib.Core.Path.{_≡_, refl, ap, _∙_}
+use Prim.Native.Nat.{_≤_, _-_, ℕ}
+use native.Mathlib.Omega.{arith}
+use lib.ListN.{length}
+use borrow.Author.Needs.{needs}
+use Rattle.apportion.specs.Places.{at}
+use Rattle.book_shares.specs.Closing.{putShares}
+use Rattle.book_shares.specs.Dealing.{besides, putShare}
+use Rattle.book_shares.proofs.Closed.{put-length, put-next}
+use Rattle.book_shares.proofs.closings.write_shares.Statement.{statement}
+use Rattle.book_shares.proofs.closings.write_shares.Tie as tie
+
+abbrev Inv-loop : tie.InvT-loop
+Inv-loop book₀ category operation provision place₀ book place = (place ≤ length operation) × (book ≡ putShares place book₀ category (besides operation provision))
+
+abbrev μ-loop : tie.MeasureT-loop
+μ-loop book₀ category operation provision place₀ book place = length operation - place
+
+loop-holds : tie.Need-loop-holds Inv-loop μ-loop
+loop-holds c = (omega arith, refl)
+
+mul-write-share : tie.Need-mul-write-share Inv-loop μ-loop
+mul-write-share c = search needs
+
+shared-slice-read-write-share : tie.Need-shared-slice-read-write-share Inv-loop μ-loop
+shared-slice-read-write-share c = search needs
+
+mul-write-share-2 : tie.Need-mul-write-share-2 Inv-loop μ-loop
+mul-write-share-2 c = search needs
+
+shared-slice-read-write-share-2 : tie.Need-shared-slice-read-write-share-2 Inv-loop μ-loop
+shared-slice-read-write-share-2 c = search needs
+
+write-share-requires : tie.Need-write-share-requires Inv-loop μ-loop
+write-share-requires c κs =
+    let long = put-length (c .before .before .before .before .before .before .before .before .args .book .now) (c .before .before .before .before .before .before .before .before .args .category) (besides (c .before .before .before .before .before .before .before .before .args .operation .now) (c .before .before .before .before .before .before .before .before .args .provision .now)) (c .before .before .before .before .loop .place) in
+    (omega (arith, c .before .before .before .before .before .before .before .before .pre .0, long, ap length (c .before .before .before .before .loop .inv .1)), omega (arith, c .before .before .before .before .before .before .before .before .pre .1 .0, c .before .before .before .loop-test .taken))
+
+add-place : tie.Need-add-place Inv-loop μ-loop
+add-place c = search needs
+
+loop-less : tie.Need-loop-less Inv-loop μ-loop
+loop-less c = omega arith
+
+loop-again : tie.Need-loop-again Inv-loop μ-loop
+loop-again c = (
+  omega arith,
+  c .before .before .write-share .ensures
+      ∙ ap (λ (ws : List ℕ). putShare ws (c .before .before .before .before .before .before .before .before .before .before .before .args .category) (c .before .before .before .before .before .before .before .loop .place) (at (c .before .before .before .before .before .before .before .before .before .before .before .args .operation .now) (c .before .before .before .before .before .before .before .loop .place)) (at (c .before .before .before .before .before .before .before .before .before .before .before .args .provision .now) (c .before .before .before .before .before .before .before .loop .place))) (c .before .before .before .before .before .before .before .loop .inv .1)
+      ∙ put-next (c .before .before .before .before .before .before .before .before .before .before .before .args .book .now) (c .before .before .before .before .before .before .before .before .before .before .before .args .category) (besides (c .before .before .before .before .before .before .before .before .before .before .before .args .operation .now) (c .before .before .before .before .before .before .before .before .before .before .before .args .provision .now)) (c .before .before .before .before .before .before .before .loop .place),
+)
+
+same-length : tie.Need-same-length Inv-loop μ-loop
+same-length c =
+    let long = put-length (c .before .before .before .before .before .args .book .now) (c .before .before .before .before .before .args .category) (besides (c .before .before .before .before .before .args .operation .now) (c .before .before .before .before .before .args .provision .now)) (c .before .loop .place) in
+    ap length (c .before .loop .inv .1) ∙ long
+
+returns : tie.Need-returns Inv-loop μ-loop
+returns c =
+    let end : c .before .loop .place ≡ length (c .before .before .before .before .before .args .operation .now) = omega (arith, c .before .loop .inv .0, c .loop-test .left) in
+    c .before .loop .inv .1 ∙ ap (λ (n : ℕ). putShares n (c .before .before .before .before .before .args .book .now) (c .before .before .before .before .before .args .category) (besides (c .before .before .before .before .before .args .operation .now) (c .before .before .before .before .before .args .provision .now))) end
+
+pub write-shares-spec : {M : Type 1} → statement M
+write-shares-spec =
+    tie.close
+    (tie.spec
+    Inv-loop
+    μ-loop
+    loop-holds
+    mul-write-share
+    shared-slice-read-write-share
+    mul-write-share-2
+    shared-slice-read-write-share-2
+    write-share-requires
+    add-place
+    loop-less
+    loop-again
+    same-length
+    returns)

@@ -1,0 +1,95 @@
+use mathlib.Core.Bool.{not, true, false}
+use mathlib.Core.Path.{_≡_, ap, _∙_, sym}
+use Prim.Native.Nat.{ℕ}
+use native.Mathlib.Omega.{arith}
+use lib.ListN.{drop}
+use borrow.Author.Needs.{needs}
+use borrow.Author.Tests.{not-false}
+use Rattle.apportion.specs.Grounds.{firstOf}
+use Rattle.book_words.specs.Book.{categories}
+use Rattle.book_words.specs.Measures.{between}
+use Rattle.book_words.specs.Soundness.{sound}
+use Rattle.book_shares.specs.Intensities.{intensityRefusal, intensityGrounds, idle}
+use Rattle.apportion.proofs.Grounds.{passed, stopped}
+use Rattle.book_words.proofs.Facts.{sound-counted}
+use Rattle.book_words.proofs.Numbered.{was-closed, was-open}
+use Rattle.book_shares.proofs.Results.{ten}
+use Rattle.book_shares.proofs.intensities.refusal_number.Statement.{statement}
+use Rattle.book_shares.proofs.intensities.refusal_number.Tie as tie
+
+-- the first so many grounds do not hold
+abbrev Past : ℕ → tie.Start → Type 0
+Past k s = intensityRefusal (s .args .book .now) (s .args .category) (s .args .code) ≡ firstOf (drop k (intensityGrounds (s .args .book .now) (s .args .category) (s .args .code)))
+
+past-1 : (s : tie.Start) → Past 1 s
+unfolding intensityRefusal
+past-1 s = passed 1 (ap not (s .pre))
+
+past-2 : (c : tie.Else1) → Past 2 (c .before .before .before)
+past-2 c = past-1 (c .before .before .before) ∙ passed 2 (c .if1 .left)
+
+past-3 : (c : tie.Else2) → Past 3 (c .before .before .before .before)
+past-3 c = past-2 (c .before) ∙ passed 3 (c .if2 .left)
+
+past-4 : (c : tie.Else3) → Past 4 (c .before .before .before .before .before .before .before)
+past-4 c =
+    let s = c .before .before .before .before .before .before .before in
+    past-3 (c .before .before .before)
+    ∙ passed 5 (ap not (was-closed (s .args .book .now) (s .args .category) (c .before .before .category-of .result) (c .before .before .category-of .ensures) (c .before .before .before .before .if1 .left) (c .if3 .left)))
+
+past-5 : (c : tie.Else4) → Past 5 (c .before .before .before .before .before .before .before .before .before)
+past-5 c = past-4 (c .before .before) ∙ passed 9 (sym (c .before .is-idle .ensures) ∙ c .if4 .left)
+
+asked : (c : tie.Else4) → (sound (c .before .before .before .before .before .before .before .before .before .args .book .now) ≡ true) × ((between 1 (categories (c .before .before .before .before .before .before .before .before .before .args .book .now)) (c .before .before .before .before .before .before .before .before .before .args .category) ≡ true) × (idle (c .before .before .before .before .before .before .before .before .before .args .book .now) (c .before .before .before .before .before .before .before .before .before .args .category) (c .before .before .before .before .before .before .before .before .before .args .code) ≡ false))
+asked c = (c .before .before .before .before .before .before .before .before .before .pre, (not-false (between 1 (categories (c .before .before .before .before .before .before .before .before .before .args .book .now)) (c .before .before .before .before .before .before .before .before .before .args .category)) (c .before .before .before .before .before .before .if1 .left), sym (c .before .is-idle .ensures) ∙ c .if4 .left))
+
+shared-slice-read-if1 : tie.Need-shared-slice-read-if1
+shared-slice-read-if1 c = omega (arith, sound-counted (c .before .before .args .book .now) (c .before .before .pre))
+
+returns : tie.Need-returns
+returns c = sym (past-1 (c .before .before .before) ∙ stopped 2 _ (c .if1 .taken))
+
+returns-2 : tie.Need-returns-2
+returns-2 c = sym (past-2 (c .before) ∙ stopped 3 _ (c .if2 .taken))
+
+category-of-requires : tie.Need-category-of-requires
+category-of-requires c κs = search needs
+
+returns-3 : tie.Need-returns-3
+returns-3 c =
+    sym (past-3 (c .before .before .before)
+    ∙ stopped 5 _ (ap not (was-open (c .before .before .before .before .before .before .before .args .book .now) (c .before .before .before .before .before .before .before .args .category) (c .before .before .category-of .result) (c .before .before .category-of .ensures) (c .before .before .before .before .if1 .left) (c .if3 .taken))))
+
+is-idle-requires : tie.Need-is-idle-requires
+is-idle-requires c κs = search needs
+
+returns-4 : tie.Need-returns-4
+returns-4 c = sym (past-4 (c .before .before) ∙ stopped 9 _ (sym (c .before .is-idle .ensures) ∙ c .if4 .taken))
+
+result-requires : tie.Need-result-requires
+result-requires c κs = asked c
+
+result-requires-2 : tie.Need-result-requires-2
+result-requires-2 c κs = asked (c .before)
+
+returns-5 : tie.Need-returns-5
+returns-5 c = sym (past-5 (c .before .before .before) ∙ stopped 10 0 (ten (c .before .before .before .before .before .before .before .before .before .before .before .before .args .book .now) (c .before .before .before .before .before .before .before .before .before .before .before .before .args .category) (c .before .before .before .before .before .before .before .before .before .before .before .before .args .code) _ _ (c .before .before .result .ensures) (c .before .result2 .ensures) ∙ c .if5 .taken))
+
+returns-6 : tie.Need-returns-6
+returns-6 c = sym (past-5 (c .before .before .before) ∙ passed 10 (ten (c .before .before .before .before .before .before .before .before .before .before .before .before .args .book .now) (c .before .before .before .before .before .before .before .before .before .before .before .before .args .category) (c .before .before .before .before .before .before .before .before .before .before .before .before .args .code) _ _ (c .before .before .result .ensures) (c .before .result2 .ensures) ∙ c .if5 .left))
+
+pub refusal-number-spec : {M : Type 1} → statement M
+refusal-number-spec =
+    tie.close
+    (tie.spec
+    shared-slice-read-if1
+    returns
+    returns-2
+    category-of-requires
+    returns-3
+    is-idle-requires
+    returns-4
+    result-requires
+    result-requires-2
+    returns-5
+    returns-6)

@@ -1,0 +1,31 @@
+use lib.Dec.{eqb}
+use borrow.Author.Needs.{needs}
+use borrow.Author.Tests.{ne-eqb}
+use Rattle.book_shares.proofs.Among.{elsewhere, joined}
+use Rattle.book_shares.proofs.pools.pooled.Statement.{statement}
+use Rattle.book_shares.proofs.pools.pooled.Tie as tie
+
+returns : tie.Need-returns
+returns c = rw (ne-eqb _ _ (c .if1 .taken))
+
+returns-2 : tie.Need-returns-2
+returns-2 c = elsewhere (c .before .before .before .before .before .args .e .group) (c .before .before .before .before .before .args .group) (c .before .before .before .before .before .args .e .struck) _ (eqb (c .before .before .before .before .before .args .e .category) (c .before .before .before .before .before .args .category)) (c .if2 .taken)
+
+enum-told : tie.Need-enum-told
+enum-told c = search needs
+
+enum-told-2 : tie.Need-enum-told-2
+enum-told-2 c = search needs
+
+returns-3 : tie.Need-returns-3
+returns-3 c =
+    rw (c .enum-told .given .1)
+    (joined (c .before .before .before .before .before .before .before .args .e .category) (c .before .before .before .before .before .before .before .args .category) (c .before .before .before .before .before .before .before .args .e .group) (c .before .before .before .before .before .before .before .args .group) (c .before .before .before .before .before .before .before .args .e .struck) (c .before .before .before .before .before .before .before .args .e .operation) (c .before .before .before .before .before .if1 .left) (c .before .before .if2 .left))
+
+returns-4 : tie.Need-returns-4
+returns-4 c =
+    rw (c .enum-told2 .given .1)
+    (joined (c .before .before .before .before .before .before .before .args .e .category) (c .before .before .before .before .before .before .before .args .category) (c .before .before .before .before .before .before .before .args .e .group) (c .before .before .before .before .before .before .before .args .group) (c .before .before .before .before .before .before .before .args .e .struck) (c .before .before .before .before .before .before .before .args .e .provision) (c .before .before .before .before .before .if1 .left) (c .before .before .if2 .left))
+
+pub pooled-spec : {M : Type 1} → statement M
+pooled-spec = tie.close (tie.spec returns returns-2 enum-told enum-told-2 returns-3 returns-4)

@@ -1,0 +1,45 @@
+use mathlib.Core.Path.{sym, _∙_}
+use Prim.Native.Nat.{_≤_}
+use native.Mathlib.Omega.{arith}
+use lib.ListN.{length}
+use lib.Seq.{length-take-le}
+use borrow.Author.Needs.{needs}
+use Rattle.book_words.proofs.Facts.{sound-counted}
+use Rattle.book_shares.proofs.sharing.deal.Statement.{statement}
+use Rattle.book_shares.proofs.sharing.deal.Tie as tie
+
+array-borrow-prefix-space : tie.Need-array-borrow-prefix-space
+array-borrow-prefix-space c = omega (arith, sound-counted (c .before .before .args .book .now) (c .before .before .pre .0), c .before .before .pre .1 .1 .0)
+
+slice-aggregate-deal-parts : tie.Need-slice-aggregate-deal-parts
+slice-aggregate-deal-parts c = sym (length-take-le _ _ (omega (arith, sound-counted (c .before .before .before .args .book .now) (c .before .before .before .pre .0), c .before .before .before .pre .1 .1 .0)))
+
+array-borrow-prefix-parts : tie.Need-array-borrow-prefix-parts
+array-borrow-prefix-parts c = omega (arith, sound-counted (c .before .before .before .args .book .now) (c .before .before .before .pre .0), c .before .before .before .pre .1 .1 .0)
+
+slice-aggregate-deal-parts-2 : tie.Need-slice-aggregate-deal-parts-2
+slice-aggregate-deal-parts-2 c = sym (length-take-le _ _ (omega (arith, sound-counted (c .before .before .before .before .args .book .now) (c .before .before .before .before .pre .0), c .before .before .before .before .pre .1 .1 .0)))
+
+deal-parts-requires : tie.Need-deal-parts-requires
+deal-parts-requires c κs =
+    let long : length (c .before .before .before .before .before .args .shares .now) ≤ 256 = omega (arith, sound-counted (c .before .before .before .before .before .args .book .now) (c .before .before .before .before .before .pre .0), c .before .before .before .before .before .pre .1 .1 .0) in
+    let whole = length-take-le _ _ long ∙ c .before .before .before .before .before .pre .1 .1 .0 in
+    (c .before .before .before .before .before .pre .0, (c .before .before .before .before .before .pre .1 .0, ((whole, whole, c .before .before .before .before .before .pre .1 .1 .0), c .before .before .before .before .before .pre .1 .1 .1)))
+
+same-length : tie.Need-same-length
+same-length c = search needs
+
+returns : tie.Need-returns
+returns c = c .before .before .before .before .deal-parts .ensures .1 .1
+
+pub deal-spec : {M : Type 1} → statement M
+deal-spec =
+    tie.close
+    (tie.spec
+    array-borrow-prefix-space
+    slice-aggregate-deal-parts
+    array-borrow-prefix-parts
+    slice-aggregate-deal-parts-2
+    deal-parts-requires
+    same-length
+    returns)

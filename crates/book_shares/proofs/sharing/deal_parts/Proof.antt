@@ -1,0 +1,65 @@
+use mathlib.Core.List.{List}
+use mathlib.Core.Path.{_∙_, ap, sym}
+use Prim.Native.Nat.{ℕ, _+_}
+use lib.ListN.{length}
+use borrow.Author.Needs.{needs}
+use Rattle.apportion.specs.Places.{listBelow, at}
+use Rattle.book_words.specs.Book.{elements}
+use Rattle.book_shares.specs.Shares.{weights, partAt}
+use Rattle.apportion.proofs.Laws.{shares-length}
+use Rattle.book_shares.proofs.Closable.{amount-divided, dealt-within}
+use Rattle.book_shares.proofs.Shared.{weights-length}
+use Rattle.book_shares.proofs.sharing.deal_parts.Statement.{statement}
+use Rattle.book_shares.proofs.sharing.deal_parts.Tie as tie
+
+set-weights-requires : tie.Need-set-weights-requires
+set-weights-requires c κs = (c .before .before .before .before .before .pre .0, c .before .before .before .before .before .pre .1 .1 .0 .0)
+
+divide-requires : tie.Need-divide-requires
+divide-requires c κs = search needs
+
+add-parts-requires : tie.Need-add-parts-requires
+add-parts-requires c κs =
+    let ws = c .before .before .before .before .before .before .before .before .before .before .before .before .before .before .before .args .book .now in
+    let parts = amount-divided ws (c .before .before .before .before .before .before .before .before .before .before .before .before .before .before .before .args .category) (c .before .before .before .before .before .before .before .before .before .before .before .before .before .before .before .args .codes) (c .before .before .before .before .before .before .before .before .before .before .before .before .before .before .before .args .amount) (c .before .before .before .before .before .before .before .before .before .before .before .before .before .before .before .pre .0) (c .before .before .before .before .before .before .before .before .before .before .before .before .before .before .before .pre .1 .0) _ (c .before .before .before .before .before .before .before .before .before .before .before .before .before .before .before .args .parts .now) _ (c .before .before .before .before .before .before .before .before .before .set-weights .ensures) (c .before .before .before .before .before .before .before .before .before .before .before .before .before .before .before .pre .1 .1 .0 .1) (c .before .before .before .before .divide .ensures .1) in
+    let long = shares-length (c .before .before .before .before .before .before .before .before .before .before .before .before .before .before .before .args .amount) (weights ws (c .before .before .before .before .before .before .before .before .before .before .before .before .before .before .before .args .category) (c .before .before .before .before .before .before .before .before .before .before .before .before .before .before .before .args .codes)) ∙ weights-length ws (c .before .before .before .before .before .before .before .before .before .before .before .before .before .before .before .args .category) (c .before .before .before .before .before .before .before .before .before .before .before .before .before .before .before .args .codes) in
+    (
+      ap length parts ∙ long ∙ sym (c .before .before .before .before .before .before .before .before .before .before .before .before .before .before .before .pre .1 .1 .0 .2),
+      (λ k. rw parts (dealt-within ws (c .before .before .before .before .before .before .before .before .before .before .before .before .before .before .before .args .category) (c .before .before .before .before .before .before .before .before .before .before .before .before .before .before .before .args .codes) (c .before .before .before .before .before .before .before .before .before .before .before .before .before .before .before .args .amount) (c .before .before .before .before .before .before .before .before .before .before .before .before .before .before .before .pre .1 .0) k), c .before .before .before .before .before .before .before .before .before .before .before .before .before .before .before .pre .1 .1 .1),
+    )
+
+same-length : tie.Need-same-length
+same-length c = search needs
+
+same-length-2 : tie.Need-same-length-2
+same-length-2 c = search needs
+
+same-length-3 : tie.Need-same-length-3
+same-length-3 c = search needs
+
+returns : tie.Need-returns
+unfolding partAt
+returns c =
+    let ws = c .before .before .before .before .before .before .before .before .before .before .before .before .before .before .before .before .before .before .args .book .now in
+    let parts = amount-divided ws (c .before .before .before .before .before .before .before .before .before .before .before .before .before .before .before .before .before .before .args .category) (c .before .before .before .before .before .before .before .before .before .before .before .before .before .before .before .before .before .before .args .codes) (c .before .before .before .before .before .before .before .before .before .before .before .before .before .before .before .before .before .before .args .amount) (c .before .before .before .before .before .before .before .before .before .before .before .before .before .before .before .before .before .before .pre .0) (c .before .before .before .before .before .before .before .before .before .before .before .before .before .before .before .before .before .before .pre .1 .0) _ (c .before .before .before .before .before .before .before .before .before .before .before .before .before .before .before .before .before .before .args .parts .now) _ (c .before .before .before .before .before .before .before .before .before .before .before .before .set-weights .ensures) (c .before .before .before .before .before .before .before .before .before .before .before .before .before .before .before .before .before .before .pre .1 .1 .0 .1) (c .before .before .before .before .before .before .before .divide .ensures .1) in
+    (
+      c .before .before .before .before .before .before .before .before .before .before .before .before .set-weights .ensures,
+      (
+        parts,
+        c .before .before .add-parts .ensures
+            ∙ ap (λ (n : ℕ). listBelow n (λ k. at (c .before .before .before .before .before .before .before .before .before .before .before .before .before .before .before .before .before .before .args .shares .now) k + at (c .before .before .before .before .before .before .before .divide .last .1 .1 .0) k)) (c .before .before .before .before .before .before .before .before .before .before .before .before .before .before .before .before .before .before .pre .1 .1 .0 .2)
+            ∙ ap (λ (l : List ℕ). listBelow (elements ws) (λ k. at (c .before .before .before .before .before .before .before .before .before .before .before .before .before .before .before .before .before .before .args .shares .now) k + at l k)) parts,
+      ),
+    )
+
+pub deal-parts-spec : {M : Type 1} → statement M
+deal-parts-spec =
+    tie.close
+    (tie.spec
+    set-weights-requires
+    divide-requires
+    add-parts-requires
+    same-length
+    same-length-2
+    same-length-3
+    returns)

@@ -1,0 +1,38 @@
+use mathlib.Core.Path.{sym, _∙_, ap}
+use Prim.Native.Nat.{ℕ, _*_}
+use lib.Dec.{eqb}
+use borrow.Author.Needs.{needs}
+use Rattle.book_words.specs.Measures.{between}
+use Rattle.book_words.specs.Totals.{capped}
+use Rattle.book_words.proofs.Capping.{capped-times}
+use Rattle.book_shares.proofs.Among.{taken-among, left-among}
+use Rattle.book_shares.proofs.weights.mass.Statement.{statement}
+use Rattle.book_shares.proofs.weights.mass.Tie as tie
+
+takes-requires : tie.Need-takes-requires
+takes-requires c κs = search needs
+
+multiply-requires : tie.Need-multiply-requires
+multiply-requires c κs = search needs
+
+multiply-requires-2 : tie.Need-multiply-requires-2
+multiply-requires-2 c κs = search needs
+
+returns : tie.Need-returns
+returns c =
+    let e = c .before .before .before .before .args .e in
+    let takes = sym (c .before .before .before .takes .ensures) ∙ c .before .before .if1 .taken in
+    c .multiply2 .ensures
+    ∙ ap (λ (n : ℕ). capped (n * e .distance)) (c .before .multiply .ensures)
+    ∙ capped-times (e .amount * 100) (e .distance)
+    ∙ ap capped (taken-among (eqb (e .category) (c .before .before .before .before .args .category)) (between 100 1000 (e .code)) (e .amount * 100 * e .distance) takes)
+
+returns-2 : tie.Need-returns-2
+returns-2 c =
+    let e = c .before .before .args .e in
+    let takes = sym (c .before .takes .ensures) ∙ c .if1 .left in
+    ap capped (left-among (eqb (e .category) (c .before .before .args .category)) (between 100 1000 (e .code)) (e .amount * 100 * e .distance) takes)
+
+pub mass-spec : {M : Type 1} → statement M
+mass-spec =
+    tie.close (tie.spec takes-requires multiply-requires multiply-requires-2 returns returns-2)

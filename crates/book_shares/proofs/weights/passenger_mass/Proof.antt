@@ -1,0 +1,77 @@
+use mathlib.Core.Path.{_∙_, ap}
+use Prim.Native.Nat.{_*_, _-_, ℕ, _+_}
+use native.Mathlib.Omega.{arith}
+use borrow.Author.Needs.{needs}
+use Rattle.book_words.specs.Book.{elementAt}
+use Rattle.book_words.specs.Totals.{capped}
+use Rattle.book_words.specs.declared.records.Element.{Element}
+use Rattle.book_shares.specs.Sums.{among, passengers, passengerMass}
+use Rattle.apportion.proofs.Grounds.{passed}
+use Rattle.book_words.proofs.Adding.{Adding, adding-start, adding-next, adding-done}
+use Rattle.book_words.proofs.Capping.{capped-more, capped-small}
+use Rattle.book_words.proofs.Facts.{sound-counted}
+use Rattle.book_words.proofs.Numbered.{next-element}
+use Rattle.book_shares.proofs.Bounds.{served-limited}
+use Rattle.book_shares.proofs.weights.passenger_mass.Statement.{statement}
+use Rattle.book_shares.proofs.weights.passenger_mass.Tie as tie
+
+abbrev Inv-loop : tie.InvT-loop
+Inv-loop book category count sum₀ passed₀ sum passed = Adding count passed sum (λ p. among category passengers (λ e. e .amount * 100 * e .distance) (elementAt book p))
+
+abbrev μ-loop : tie.MeasureT-loop
+μ-loop book category count sum₀ passed₀ sum passed = count - passed
+
+shared-slice-read-count : tie.Need-shared-slice-read-count Inv-loop μ-loop
+shared-slice-read-count c = omega (arith, sound-counted (c .before .before .args .book .now) (c .before .before .pre))
+
+loop-holds : tie.Need-loop-holds Inv-loop μ-loop
+loop-holds c = adding-start _ _
+
+add-element-of : tie.Need-add-element-of Inv-loop μ-loop
+add-element-of c = omega (arith, sound-counted (c .before .before .before .before .args .book .now) (c .before .before .before .before .pre))
+
+element-of-requires : tie.Need-element-of-requires Inv-loop μ-loop
+element-of-requires c κs = search needs
+
+mass-requires : tie.Need-mass-requires Inv-loop μ-loop
+mass-requires c κs = search needs
+
+add-requires : tie.Need-add-requires Inv-loop μ-loop
+add-requires c κs = search needs
+
+add-passed : tie.Need-add-passed Inv-loop μ-loop
+add-passed c = omega (arith, sound-counted (c .before .before .before .before .before .before .before .args .book .now) (c .before .before .before .before .before .before .before .pre))
+
+loop-less : tie.Need-loop-less Inv-loop μ-loop
+loop-less c = omega arith
+
+loop-again : tie.Need-loop-again Inv-loop μ-loop
+loop-again c =
+    let measure : Element → ℕ = among (c .before .before .before .before .before .before .before .args .category) passengers (λ x. x .amount * 100 * x .distance) in
+    let e = c .before .before .element-of .ensures ∙ next-element (c .before .before .before .before .before .before .before .args .book .now) (c .before .before .before .before .loop .passed) (c .before .before .before .loop-test .taken) in
+    let term = c .before .mass .ensures ∙ ap (λ (x : Element). capped (measure x)) e in
+    adding-next _ (c .before .before .before .before .loop .inv) (c .before .before .before .loop-test .taken)
+    (c .add .ensures ∙ ap (λ (x : ℕ). capped (c .before .before .before .before .loop .sum + x)) term ∙ capped-more (c .before .before .before .before .loop .sum) (measure (elementAt (c .before .before .before .before .before .before .before .args .book .now) (c .before .before .before .before .loop .passed))))
+
+returns : tie.Need-returns Inv-loop μ-loop
+unfolding passengerMass
+returns c =
+    adding-done (c .before .loop .inv) (c .loop-test .left)
+    ∙ capped-small _ (omega (arith, served-limited (c .before .before .before .before .args .book .now) (c .before .before .before .before .pre) (c .before .before .before .before .args .category)))
+
+pub passenger-mass-spec : {M : Type 1} → statement M
+passenger-mass-spec =
+    tie.close
+    (tie.spec
+    Inv-loop
+    μ-loop
+    shared-slice-read-count
+    loop-holds
+    add-element-of
+    element-of-requires
+    mass-requires
+    add-requires
+    add-passed
+    loop-less
+    loop-again
+    returns)

@@ -1,0 +1,50 @@
+-- "**Close** (category)." Assumes nothing.
+use mathlib.Core.Bool.{Bool, _||_, _&&_, not, cond}
+use mathlib.Core.List.{List, _∷_, []}
+use Prim.Native.Nat.{ℕ, _+_, zero, suc, _*_, _-_}
+use lib.Dec.{ltb, eqb}
+use lib.ListN.{set}
+use Rattle.apportion.specs.Grounds.{Ground, firstOf, accepted}
+use Rattle.book_words.specs.Book.{unnumbered, categories, isClosed, elementAt, puts, elements}
+use Rattle.book_words.specs.Soundness.{sound}
+use Rattle.book_words.specs.Totals.{operation, provision, Side}
+use Rattle.book_shares.specs.Shares.{closingShare}
+use Rattle.book_shares.specs.Sums.{pool, activityAmong, ofGroup, freight, passengerMass}
+
+-- ground 9: "a B, operation or provision, is above 0 and its S is 0"
+abbrev pub unserved : List ℕ → ℕ → ℕ → Bool
+unserved ws category group =
+    (ltb 0 (pool ws category group operation) || ltb 0 (pool ws category group provision))
+    && eqb (activityAmong ws category (ofGroup group)) 0
+
+-- ground 9: "F+P is 0"
+abbrev pub nobodyServed : List ℕ → ℕ → Bool
+nobodyServed ws category = eqb (activityAmong ws category freight + passengerMass ws category) 0
+
+abbrev pub closeGrounds : List ℕ → ℕ → List Ground
+closeGrounds ws category =
+    (1, not (sound ws))
+    ∷ (2, unnumbered (categories ws) category)
+    ∷ (4, isClosed ws category)
+    ∷ (9, nobodyServed ws category || unserved ws category 1 || unserved ws category 2)
+    ∷ []
+
+unfoldable pub closeRefusal : List ℕ → ℕ → ℕ
+closeRefusal ws category = firstOf (closeGrounds ws category)
+
+-- the two share words of each element of the category among the first n are written
+abbrev pub putShares : ℕ → List ℕ → ℕ → (Side → ℕ → ℕ) → List ℕ
+putShares zero ws category share = ws
+putShares (suc n) ws category share =
+    cond (eqb (elementAt ws n .category) category)
+    (puts (putShares n ws category share)
+    ((356 + 8 * n + 6, share operation n) ∷ (356 + 8 * n + 7, share provision n) ∷ []))
+    (putShares n ws category share)
+
+-- every element of the category gets its shares, and the category's closed word is set
+unfoldable pub closeWith : List ℕ → ℕ → (Side → ℕ → ℕ) → List ℕ
+closeWith ws category share = set (putShares (elements ws) ws category share) (4 + 2 * (category - 1) + 1) 1
+
+unfoldable pub closeBook : List ℕ → ℕ → List ℕ
+closeBook ws category =
+    accepted (closeRefusal ws category) (closeWith ws category (closingShare ws category)) ws

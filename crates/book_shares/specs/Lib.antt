@@ -1,0 +1,5 @@
+pub mod Sums
+pub mod Shares
+pub mod Closing
+pub mod Intensities
+pub mod Dealing

@@ -1,0 +1,76 @@
+-- The shares that a closing writes, and the exact share of each. Assumes nothing.
+use mathlib.Core.Bool.{cond}
+use mathlib.Core.List.{List, _∷_, []}
+use Prim.Native.Nat.{ℕ, _+_, _*_}
+use lib.Dec.{eqb}
+use Rattle.apportion.specs.Dividing.{divided}
+use Rattle.apportion.specs.Places.{at, listBelow}
+use Rattle.book_words.specs.Book.{elements, elementAt}
+use Rattle.book_words.specs.Measures.{isFreight}
+use Rattle.book_words.specs.Totals.{Side}
+use Rattle.book_words.specs.declared.records.Element.{Element}
+use Rattle.book_shares.specs.declared.weights.Codes.{Codes}
+use Rattle.book_shares.specs.Sums.{pool, activityAmong, freight, passengerMass, among, passengers, ofGroup}
+
+-- "Divide A by the weights F, P in that order."
+unfoldable pub dividedAll : List ℕ → ℕ → Side → List ℕ
+dividedAll ws category side =
+    divided (pool ws category 0 side) (activityAmong ws category freight ∷ passengerMass ws category ∷ [])
+
+abbrev pub freightPart : List ℕ → ℕ → Side → ℕ
+freightPart ws category side = at (dividedAll ws category side) 0
+
+abbrev pub passengerPart : List ℕ → ℕ → Side → ℕ
+passengerPart ws category side = at (dividedAll ws category side) 1
+
+-- the activities of the elements that a pool goes to. There is a weight for every element of the book, in its place, and it is 0
+-- for those that the pool does not go to: these get 0, and the others what they would get alone (`alone`)
+unfoldable pub weights : List ℕ → ℕ → Codes → List ℕ
+weights ws category codes = listBelow (elements ws) (λ p. among category codes (λ e. e .activity) (elementAt ws p))
+
+-- the part of a pool that the element at this place gets
+unfoldable pub partAt : List ℕ → ℕ → Codes → ℕ → ℕ → ℕ
+partAt ws category codes amount place = at (divided amount (weights ws category codes)) place
+
+-- "Divide the freight part over freight elements by activity, the passenger part over passenger elements by activity, each B
+-- over the freight elements of its group. A share is the sum of an element's parts."
+unfoldable pub closingShare : List ℕ → ℕ → Side → ℕ → ℕ
+closingShare ws category side place =
+    partAt ws category freight (freightPart ws category side) place
+    + partAt ws category passengers (passengerPart ws category side) place
+    + partAt ws category (ofGroup 1) (pool ws category 1 side) place
+    + partAt ws category (ofGroup 2) (pool ws category 2 side) place
+
+-- a fraction, by its numerator and its denominator
+pub record Fraction : Type 0 where
+  pub numerator : ℕ
+  pub denominator : ℕ
+
+abbrev pub over : ℕ → ℕ → Fraction
+over n d = record { numerator = n; denominator = d }
+
+abbrev pub plus : Fraction → Fraction → Fraction
+plus x y = over (x .numerator * y .denominator + y .numerator * x .denominator) (x .denominator * y .denominator)
+
+-- *Exact share* by its sums, of an element of this code and activity. "Freight of activity a in group g: A×a/(F+P), plus B×a/S
+-- if g is 1 or 2, B being that group's and S its activity. Passengers of activity c: A×P×c/((F+P)×C)."
+unfoldable pub exactShare : (A F P C : ℕ) → (B S : ℕ → ℕ) → (code activity : ℕ) → Fraction
+exactShare A F P C B S code activity =
+    cond (isFreight code)
+    (cond (eqb code 0)
+    (over (A * activity) (F + P))
+    (plus (over (A * activity) (F + P)) (over (B code * activity) (S code))))
+    (over (A * P * activity) ((F + P) * C))
+
+-- the exact share of an element in the category, by the sums of the book
+abbrev pub exactIn : List ℕ → ℕ → Side → Element → Fraction
+exactIn ws category side e =
+    exactShare
+    (pool ws category 0 side)
+    (activityAmong ws category freight)
+    (passengerMass ws category)
+    (activityAmong ws category passengers)
+    (λ g. pool ws category g side)
+    (λ g. activityAmong ws category (ofGroup g))
+    (e .code)
+    (e .activity)

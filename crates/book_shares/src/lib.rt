@@ -1,0 +1,11 @@
+// The shares of a category (document 01, "Close" and "Intensity"): the pools of its unstruck entries, the
+// activities that they are divided by, and what each element gets.
+mod closings;
+mod intensities;
+mod pools;
+mod sharing;
+mod weights;
+
+pub use closings::close_sound;
+pub use intensities::Intensity;
+pub use intensities::intensity_sound;
