@@ -173,8 +173,8 @@ module _ (ws ws′ : List ℕ) where
   pub open-keeps : (r : Category) → Whole ws → CategoryAdded ws ws′ r → categories ws < mostCategories → categoryFine r ≡ true → r .closed ≡ 0 → Whole ws′
   open-keeps r w a room fine unclosed =
       let carried : Carried ws ws′ = record { no-fewer = omega (arith, a .one-more); same = λ p h. a .category-kept p (λ e. omega arith) } in
-      let entry-sums = entries-kept (a .same-entries) (λ p h. a .entry-kept p) in
-      let element-sums = elements-kept (a .same-elements) (λ p h. a .element-kept p) in
+      let entry-sums = entries-kept ws ws′ (a .same-entries) (λ p h. a .entry-kept p) in
+      let element-sums = elements-kept ws ws′ (a .same-elements) (λ p h. a .element-kept p) in
       record {
         counts = record {
           long = omega (arith, a .same-length, w .counts .long);
@@ -206,7 +206,7 @@ module _ (ws ws′ : List ℕ) where
   post-keeps r w a room fine unclosed within =
       let carried = carried-over (a .same-categories) (w .counts .categories-most) (a .category-kept) in
       let entry-sums = entries-more r (a .one-more) (λ p h. a .entry-kept p (λ e. omega arith)) (a .entry-new) in
-      let element-sums = elements-kept (a .same-elements) (λ p h. a .element-kept p) in
+      let element-sums = elements-kept ws ws′ (a .same-elements) (λ p h. a .element-kept p) in
       record {
         counts = record {
           long = omega (arith, a .same-length, w .counts .long);
@@ -236,7 +236,7 @@ module _ (ws ws′ : List ℕ) where
   pub strike-keeps : (place : ℕ) → Whole ws → EntryStruck ws ws′ place → place < entries ws → categoryOf ws (entryAt ws place .category) .closed ≡ 0 → Whole ws′
   strike-keeps place w a h unclosed =
       let carried = carried-over (a .same-categories) (w .counts .categories-most) (a .category-kept) in
-      let element-sums = elements-kept (a .same-elements) (λ p i. a .element-kept p) in
+      let element-sums = elements-kept ws ws′ (a .same-elements) (λ p i. a .element-kept p) in
       record {
         counts = record {
           long = omega (arith, a .same-length, w .counts .long);
@@ -275,7 +275,7 @@ module _ (ws ws′ : List ℕ) where
       → Whole ws′
   element-keeps r w a room fine within active none =
       let carried = carried-over (a .same-categories) (w .counts .categories-most) (a .category-kept) in
-      let entry-sums = entries-kept (a .same-entries) (λ p h. a .entry-kept p (omega (arith, w .counts .entries-most))) in
+      let entry-sums = entries-kept ws ws′ (a .same-entries) (λ p h. a .entry-kept p (omega (arith, w .counts .entries-most))) in
       let element-sums = elements-more r (a .one-more) (λ p h. a .element-kept p (λ e. omega arith)) (a .element-new) in
       record {
         counts = record {

@@ -18,15 +18,10 @@ use Rattle.book_words.specs.declared.records.Entry.{Entry}
 use Rattle.book_shares.specs.declared.weights.Codes.{Codes}
 use Rattle.book_shares.specs.Sums.{pool, pooled, activityAmong, among, freight, passengerMass, passengers}
 use Rattle.apportion.proofs.Sums.{sum-le, sum-mul, sum-add, sum-cong}
-use Rattle.book_words.proofs.Booleans.{and-false}
+use Rattle.book_words.proofs.Booleans.{and-false, cond-most}
 use Rattle.book_words.proofs.Ranges.{between-low}
 use Rattle.book_words.proofs.Wholes.{Whole, sound-whole}
 use Rattle.book_shares.proofs.Members.{Measured, fine-measured, tenfold, at-least-mass, entry-grouped}
-
--- what a part of a sum adds is no more than the whole
-pub only : (t : Bool) (n : ℕ) → cond t n 0 ≤ n
-only true n = omega arith
-only false n = omega arith
 
 module _ (ws : List ℕ) (fine : sound ws ≡ true) where
   abbrev whole : Whole ws
@@ -46,7 +41,7 @@ module _ (ws : List ℕ) (fine : sound ws ≡ true) where
           sum-le (entries ws)
               (λ p. pooled category group side (entryAt ws p))
               (λ p. unstruck side (entryAt ws p))
-              (λ p i. le-trans (only (eqb (entryAt ws p .category) category) _) (only (eqb (entryAt ws p .group) group) _)),
+              (λ p i. le-trans (cond-most (eqb (entryAt ws p .category) category) _) (cond-most (eqb (entryAt ws p .group) group) _)),
         )
 
     pub activity-limited : (codes : Codes) → activityAmong ws category codes ≤ largest
@@ -59,8 +54,8 @@ module _ (ws : List ℕ) (fine : sound ws ≡ true) where
         (λ p h.
         le-trans
         (le-trans
-        (only (eqb (elementAt ws p .category) category) _)
-        (only (between (codes .first) (codes .last) (elementAt ws p .code)) _))
+        (cond-most (eqb (elementAt ws p .category) category) _)
+        (cond-most (between (codes .first) (codes .last) (elementAt ws p .code)) _))
         (tenfold (elementAt ws p) (at-place p h))) in
         omega (arith, most, sum-mul (elements ws) 10 (λ p. massActivity (elementAt ws p)), whole .active)
 
@@ -86,10 +81,10 @@ module _ (ws : List ℕ) (fine : sound ws ≡ true) where
             go false f p = omega arith
             go true true p =
                 let low = leb-true (e .code) 2 p in
-                rw (lt-leb 100 (e .code) (omega arith)) (omega (arith, only (between 0 2 (e .code)) (e .activity)))
+                rw (lt-leb 100 (e .code) (omega arith)) (omega (arith, cond-most (between 0 2 (e .code)) (e .activity)))
             go true false p =
                 let none : between 0 2 (e .code) ≡ false = and-false (leb 0 (e .code)) (leb (e .code) 2) p in
-                rw none (omega (arith, only (between 100 1000 (e .code)) (e .amount * 100 * e .distance)))
+                rw none (omega (arith, cond-most (between 100 1000 (e .code)) (e .amount * 100 * e .distance)))
 
     -- C is at least P, and at most ten times P
     pub mass-least : passengerMass ws category ≤ activityAmong ws category passengers

@@ -11,16 +11,17 @@ use lib.Dec.{eqb}
 use lib.ListN.{length, length-set}
 use lib.Seq.{getD-set-other, getD-set-same}
 use borrow.Author.Tests.{eqb-true, eq-eqb}
+use Rattle.apportion.specs.Dividing.{before}
 use Rattle.apportion.specs.Places.{at}
 use Rattle.book_words.specs.Book.{bookLength, categories, entries, elements, mostCategories, mostEntries, categoryAt, entryAt, elementAt, puts}
 use Rattle.book_words.specs.Parts.{CountsWithin}
 use Rattle.book_words.specs.Totals.{Side, operation, provision}
 use Rattle.book_words.specs.declared.records.Category.{Category}
 use Rattle.book_words.specs.declared.records.Element.{Element}
+use Rattle.book_shares.specs.Closing.{handOut, closeWith}
+use Rattle.book_shares.specs.Dealing.{giveShares}
 use Rattle.book_words.proofs.Views.{category-same, entry-same, element-same}
 use Rattle.book_words.proofs.Writes.{Avoids, puts-length, puts-other, puts-here}
-use Rattle.book_shares.specs.Closing.{putShares, closeWith}
-use Rattle.book_shares.specs.Dealing.{putShare}
 
 -- the same element with these shares
 abbrev pub withShares : Element → ℕ → ℕ → Element
@@ -70,33 +71,33 @@ module _ (ws : List ℕ) (category : ℕ) where
   NoShare n k = (q : ℕ) → q < n → elementAt ws q .category ≡ category → (k ≡ 356 + 8 * q + 6 → ⊥) × (k ≡ 356 + 8 * q + 7 → ⊥)
 
   module _ (share : Side → ℕ → ℕ) where
-    pub put-length : (n : ℕ) → length (putShares n ws category share) ≡ length ws
+    pub put-length : (n : ℕ) → length (handOut n ws category share) ≡ length ws
     put-length zero = refl
     put-length (suc n) =
-        chosen-length (eqb (elementAt ws n .category) category) (putShares n ws category share)
+        chosen-length (eqb (elementAt ws n .category) category) (handOut n ws category share)
         ((356 + 8 * n + 6, share operation n) ∷ (356 + 8 * n + 7, share provision n) ∷ [])
         ∙ put-length n
 
     -- the other words are as before
-    pub put-word : (n k : ℕ) → NoShare n k → at (putShares n ws category share) k ≡ at ws k
+    pub put-word : (n k : ℕ) → NoShare n k → at (handOut n ws category share) k ≡ at ws k
     put-word zero k none = refl
     put-word (suc n) k none =
-        chosen-other (eqb (elementAt ws n .category) category) (putShares n ws category share)
+        chosen-other (eqb (elementAt ws n .category) category) (handOut n ws category share)
         ((356 + 8 * n + 6, share operation n) ∷ (356 + 8 * n + 7, share provision n) ∷ [])
         k
         (λ e. let here = none n (omega arith) (eqb-true (elementAt ws n .category) category e) in (here .0, (here .1, refl)))
         ∙ put-word n k (λ q h. none q (omega arith))
 
     -- one place more, as the code counts: the writes so far leave the next element's category as it was
-    pub put-next : (n : ℕ) → putShare (putShares n ws category share) category n (share operation n) (share provision n) ≡ putShares (n + 1) ws category share
+    pub put-next : (n : ℕ) → giveShares (handOut n ws category share) category n (share operation n) (share provision n) ≡ handOut (n + 1) ws category share
     put-next n = rw (add-one, put-word n (356 + 8 * n) (λ q h e. omega arith))
 
     -- the share words hold the shares
     shares-here : (n q : ℕ) → q < n → elementAt ws q .category ≡ category → 356 + 8 * q + 7 < length ws
-        → (at (putShares n ws category share) (356 + 8 * q + 6) ≡ share operation q) × (at (putShares n ws category share) (356 + 8 * q + 7) ≡ share provision q)
+        → (at (handOut n ws category share) (356 + 8 * q + 6) ≡ share operation q) × (at (handOut n ws category share) (356 + 8 * q + 7) ≡ share provision q)
     shares-here zero q h e inside = let z : ⊥ = omega arith in absurd z
     shares-here (suc n) q h e inside =
-        let before = putShares n ws category share in
+        let before = handOut n ws category share in
         let test = eqb (elementAt ws n .category) category in
         let a : ℕ × ℕ = (356 + 8 * n + 6, share operation n) in
         let b : ℕ × ℕ = (356 + 8 * n + 7, share provision n) in
@@ -114,7 +115,7 @@ module _ (ws : List ℕ) (category : ℕ) where
         (eq-or-lt-of-le h)
 
   -- only the shares below n are looked at
-  pub put-cong : (n : ℕ) (f g : Side → ℕ → ℕ) → ((s : Side) (k : ℕ) → k < n → f s k ≡ g s k) → putShares n ws category f ≡ putShares n ws category g
+  pub put-cong : (n : ℕ) (f g : Side → ℕ → ℕ) → ((s : Side) (k : ℕ) → k < n → f s k ≡ g s k) → handOut n ws category f ≡ handOut n ws category g
   put-cong zero f g same = refl
   put-cong (suc n) f g same =
       rw (
@@ -136,7 +137,7 @@ category-closed ws counts category low high share =
     let n = elements ws in
     let most = counts .categories-most in
     let place = 4 + 2 * (category - 1) + 1 in
-    let shared = putShares n ws category share in
+    let shared = handOut n ws category share in
     let after = closeWith ws category share in
     let word : (k : ℕ) → (k ≡ place → ⊥) → at after k ≡ at shared k = λ k ne. getD-set-other shared place k 1 0 ne in
     let other : (k : ℕ) → (k ≡ place → ⊥) → NoShare ws category n k → at after k ≡ at ws k = λ k ne none. word k ne ∙ put-word ws category share n k none in

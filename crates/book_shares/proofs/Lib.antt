@@ -3,9 +3,11 @@ pub mod Members
 pub mod Bounds
 pub mod Among
 pub mod Quotients
+pub mod Results
 pub mod Nearness
 pub mod Shared
-pub mod Results
 pub mod Closed
 pub mod Closable
+pub mod Dealt
 pub mod Keeps
+pub mod Laws

@@ -2,7 +2,7 @@
 use mathlib.Core.Logic.{⊎-elim}
 use mathlib.Core.Path.{_≡_, _∙_, ap, refl}
 use Prim.Native.Nat.{ℕ, _<_, _*_, _+_, _/_, _%_, _≤_, _-_, _^_, zero, suc}
-use native.Mathlib.Nat.{mul-add-div-right, div-eq-of-lt, add-zero, mul-add-mod-self-right, mod-eq-of-lt, div-add-mod', mod-lt, pow-suc}
+use native.Mathlib.Nat.{mul-add-div-right, div-eq-of-lt, add-zero, div-add-mod', mod-lt, pow-suc}
 use native.Mathlib.Numerals.{sub-one}
 use native.Mathlib.Omega.{arith}
 use Rattle.apportion.specs.Places.{at}
@@ -16,9 +16,6 @@ div-of : (q r t : ℕ) → r < t → (q * t + r) / t ≡ q
 div-of q r t h =
     let some : 0 < t = omega arith in
     mul-add-div-right some q r ∙ rw (div-eq-of-lt h) (add-zero q)
-
-mod-of : (q r t : ℕ) → r < t → (q * t + r) % t ≡ r
-mod-of q r t h = mul-add-mod-self-right q t r ∙ mod-eq-of-lt h
 
 -- a quotient and twice its remainder, rounded down, is the quotient rounded to nearest, halves up
 pub halves-up : (q r t : ℕ) → r < t → q + 2 * r / t ≡ nearest (q * t + r) t

@@ -1,8 +1,8 @@
 -- What holds where an intensity is wanted, and its results by their quotients. Assumes nothing.
-use mathlib.Core.Bool.{Bool, _||_, not, _&&_, false, true}
+use mathlib.Core.Bool.{Bool, _||_, not, _&&_, false, true, cond}
 use mathlib.Core.List.{List}
 use mathlib.Core.Logic.{⊎-elim}
-use mathlib.Core.Path.{_≡_, _∙_}
+use mathlib.Core.Path.{_≡_, _∙_, refl, ap}
 use Prim.Native.Nat.{ℕ, _<_, _*_, _^_, _+_, _≤_, zero, suc}
 use native.Mathlib.Nat.{eq-zero-or-pos, add-zero}
 use native.Mathlib.Omega.{arith}
@@ -11,11 +11,11 @@ use borrow.Author.Tests.{eqb-false, eq-eqb, ne-eqb, not-false, ltb-false}
 use Rattle.apportion.specs.Grounds.{accepted}
 use Rattle.apportion.specs.Places.{at}
 use Rattle.book_words.specs.Book.{categoryOf, categories, unnumbered, isClosed}
-use Rattle.book_words.specs.Measures.{nearest, between}
+use Rattle.book_words.specs.Measures.{nearest, between, isHub}
 use Rattle.book_words.specs.Soundness.{sound}
 use Rattle.book_words.specs.Totals.{Side, capped, operation, provision}
 use Rattle.book_shares.specs.declared.intensities.Intensity.{Intensity}
-use Rattle.book_shares.specs.Dealing.{Served}
+use Rattle.book_shares.specs.Dealing.{Served, scaleTens}
 use Rattle.book_shares.specs.Intensities.{idle, intensityOf, scale, mostResult, intensityRefusal, isIntensityCode, passesIntensity, intensityReply}
 use Rattle.book_shares.specs.Shares.{passengerPart, freightPart}
 use Rattle.book_shares.specs.Sums.{activityAmong, freight, ofGroup, passengers, pool}
@@ -27,9 +27,6 @@ use Rattle.book_shares.proofs.Closable.{nine}
 
 module _ (ws : List ℕ) (category code : ℕ) where
   -- where ground 9 does not hold, there is an activity to divide by
-  lacks : Bool
-  lacks = eqb (activityAmong ws category freight) 0 || (not (eqb code 0) && eqb (activityAmong ws category (ofGroup code)) 0)
-
   some : (n : ℕ) → eqb n 0 ≡ false → 0 < n
   some n e = ⊎-elim (λ (none : n ≡ 0). absurd (eqb-false n 0 e none)) (λ (l : 0 < n). l) (eq-zero-or-pos n)
 
@@ -62,8 +59,18 @@ module _ (ws : List ℕ) (category code : ℕ) where
     unfolding intensityOf
     passengers-result amount total r is e f g = rw (← e, ← f, eq-eqb code 100 is) g
 
-    module _ (tens amount total first : ℕ) (other : code ≡ 100 → ⊥) (unit : 10 ^ tens ≡ scale (categoryOf ws category .kind))
+    tens-scale : (kind : ℕ) → 10 ^ scaleTens kind ≡ scale kind
+    tens-scale kind = go (isHub kind)
+      where
+        go : (t : Bool) → 10 ^ cond t 0 3 ≡ cond t 1 1000
+        go true = refl
+        go false = refl
+
+    module _ (tens amount total first : ℕ) (other : code ≡ 100 → ⊥) (is-tens : tens ≡ scaleTens (categoryOf ws category .kind))
         (e : amount ≡ freightPart ws category side) (f : total ≡ activityAmong ws category freight) (g : first ≡ capped (nearest (amount * 10 ^ tens) total)) where
+      unit : 10 ^ tens ≡ scale (categoryOf ws category .kind)
+      unit = ap (λ (n : ℕ). 10 ^ n) is-tens ∙ tens-scale (categoryOf ws category .kind)
+
       pub freight-result : code ≡ 0 → first ≡ capped (intensityOf ws category code side)
       unfolding intensityOf
       freight-result none = rw (← e, ← f, ← unit, ne-eqb code 100 other, eq-eqb code 0 none, add-zero) g

@@ -6,7 +6,7 @@ use mathlib.Core.Path.{_≡_, refl, sym, ap, _∙_}
 use Prim.Native.Nat.{ℕ, _+_, _*_, _≤_, _<_}
 use native.Mathlib.Nat.{eq-zero-or-pos, eq-or-lt-of-le}
 use native.Mathlib.Omega.{arith}
-use lib.Dec.{eqb, leb}
+use lib.Dec.{eqb}
 use lib.ListN.{length}
 use borrow.Author.Tests.{eq-eqb, ne-eqb, le-leb, lt-leb}
 use Rattle.apportion.specs.Dividing.{divided, Divisible}
@@ -17,28 +17,15 @@ use Rattle.book_words.specs.Measures.{between, isCode}
 use Rattle.book_words.specs.Totals.{Side}
 use Rattle.book_shares.specs.declared.weights.Codes.{Codes}
 use Rattle.book_shares.specs.Dealing.{Served}
-use Rattle.book_shares.specs.Shares.{dividedAll, freightPart, passengerPart, weights, partAt, closingShare, over, plus, exactShare, exactIn}
+use Rattle.book_shares.specs.Shares.{dividedAll, freightPart, passengerPart, weights, partAt, closingShare, exactShare, exactIn, over, plus}
 use Rattle.book_shares.specs.Sums.{pool, freight, passengers, ofGroup, among, activityAmong, passengerMass}
-use Rattle.apportion.proofs.Laws.{shares-length, shares-sum, share-of-zero, share-near, divided-kept}
+use Rattle.apportion.proofs.Laws.{shares-length, shares-sum, share-of-zero, share-near}
 use Rattle.apportion.proofs.Lists.{list-length, list-at, list-past, list-sum}
+use Rattle.apportion.proofs.Omitting.{divided-kept}
 use Rattle.apportion.proofs.Sums.{below-or-not, sum-add, sum-some}
-use Rattle.book_words.proofs.Booleans.{and-both, and-false}
+use Rattle.book_words.proofs.Booleans.{and-both, and-false, cond-both}
+use Rattle.book_words.proofs.Ranges.{between-outside, between-inside}
 use Rattle.book_shares.proofs.Nearness.{near-chain, near-cancel, near-plus, near-weaken}
-
--- a number in a range, and one that is not
-pub between-inside : (low high n : ℕ) → low ≤ n → n ≤ high → between low high n ≡ true
-between-inside low high n l h = and-both (leb low n) (leb n high) (le-leb low n l) (le-leb n high h)
-
-pub between-outside : (low high n : ℕ) → (n < low) ⊎ (high < n) → between low high n ≡ false
-between-outside low high n =
-    ⊎-elim
-    (λ (l : n < low). rw (lt-leb low n l))
-    (λ (h : high < n). and-false (leb low n) (leb n high) (lt-leb n high h))
-
--- two tests, one inside the other, are the two joined
-pub cond-both : (a b : Bool) (n : ℕ) → cond a (cond b n 0) 0 ≡ cond (a && b) n 0
-cond-both true b n = refl
-cond-both false b n = refl
 
 -- the sum of a list of two
 pub sum-two : (xs : List ℕ) → length xs ≡ 2 → sumOf xs ≡ at xs 0 + at xs 1

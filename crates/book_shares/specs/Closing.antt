@@ -1,11 +1,10 @@
 -- "**Close** (category)." Assumes nothing.
 use mathlib.Core.Bool.{Bool, _||_, _&&_, not, cond}
 use mathlib.Core.List.{List, _∷_, []}
-use Prim.Native.Nat.{ℕ, _+_, zero, suc, _*_, _-_}
+use Prim.Native.Nat.{ℕ, _+_, zero, suc}
 use lib.Dec.{ltb, eqb}
-use lib.ListN.{set}
 use Rattle.apportion.specs.Grounds.{Ground, firstOf, accepted}
-use Rattle.book_words.specs.Book.{unnumbered, categories, isClosed, elementAt, puts, elements}
+use Rattle.book_words.specs.Book.{unnumbered, categories, isClosed, elementAt, elements, putShares, closeCategory}
 use Rattle.book_words.specs.Soundness.{sound}
 use Rattle.book_words.specs.Totals.{operation, provision, Side}
 use Rattle.book_shares.specs.Shares.{closingShare}
@@ -32,18 +31,17 @@ closeGrounds ws category =
 unfoldable pub closeRefusal : List ℕ → ℕ → ℕ
 closeRefusal ws category = firstOf (closeGrounds ws category)
 
--- the two share words of each element of the category among the first n are written
-abbrev pub putShares : ℕ → List ℕ → ℕ → (Side → ℕ → ℕ) → List ℕ
-putShares zero ws category share = ws
-putShares (suc n) ws category share =
+-- each element of the category among the first n gets its shares
+abbrev pub handOut : ℕ → List ℕ → ℕ → (Side → ℕ → ℕ) → List ℕ
+handOut zero ws category share = ws
+handOut (suc n) ws category share =
     cond (eqb (elementAt ws n .category) category)
-    (puts (putShares n ws category share)
-    ((356 + 8 * n + 6, share operation n) ∷ (356 + 8 * n + 7, share provision n) ∷ []))
-    (putShares n ws category share)
+    (putShares (handOut n ws category share) n (share operation n) (share provision n))
+    (handOut n ws category share)
 
--- every element of the category gets its shares, and the category's closed word is set
+-- every element of the category gets its shares, and the category is closed
 unfoldable pub closeWith : List ℕ → ℕ → (Side → ℕ → ℕ) → List ℕ
-closeWith ws category share = set (putShares (elements ws) ws category share) (4 + 2 * (category - 1) + 1) 1
+closeWith ws category share = closeCategory (handOut (elements ws) ws category share) category
 
 unfoldable pub closeBook : List ℕ → ℕ → List ℕ
 closeBook ws category =

@@ -1,11 +1,12 @@
 -- What the inner functions of a closing and of an intensity require and promise. Assumes nothing.
 use mathlib.Core.Bool.{cond}
-use mathlib.Core.List.{List, _∷_, []}
-use Prim.Native.Nat.{ℕ, _<_, _+_, _≤_, _*_}
+use mathlib.Core.List.{List}
+use Prim.Native.Nat.{ℕ, _<_, _+_, _≤_}
 use lib.Dec.{eqb}
 use Rattle.apportion.specs.Dividing.{Divisible, largest}
 use Rattle.apportion.specs.Places.{at}
-use Rattle.book_words.specs.Book.{elementAt, puts}
+use Rattle.book_words.specs.Book.{elementAt, putShares}
+use Rattle.book_words.specs.Measures.{isHub}
 use Rattle.book_words.specs.Totals.{Side, operation, provision}
 use Rattle.book_shares.specs.declared.pools.Stage.{Stage}
 use Rattle.book_shares.specs.declared.pools.Stage.the-variants.{Operation, Provision}
@@ -33,9 +34,10 @@ abbrev pub besides : List ℕ → List ℕ → Side → ℕ → ℕ
 besides a b operation k = at a k
 besides a b provision k = at b k
 
--- the words after the two share words of the element at this place are written, where it is of this category
-abbrev pub putShare : List ℕ → ℕ → ℕ → ℕ → ℕ → List ℕ
-putShare ws category place a b =
-    cond (eqb (elementAt ws place .category) category)
-    (puts ws ((356 + 8 * place + 6, a) ∷ (356 + 8 * place + 7, b) ∷ []))
-    ws
+-- where the element at this place is of the category, its two shares are written
+abbrev pub giveShares : List ℕ → ℕ → ℕ → ℕ → ℕ → List ℕ
+giveShares ws category place a b = cond (eqb (elementAt ws place .category) category) (putShares ws place a b) ws
+
+-- how many tens the scale of a kind is the product of
+abbrev pub scaleTens : ℕ → ℕ
+scaleTens kind = cond (isHub kind) 0 3

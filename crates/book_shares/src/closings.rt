@@ -7,8 +7,8 @@ ghost use Rattle.apportion.specs.Places.{at, listBelow};
 ghost use Rattle.book_words.specs.Book.{elements, bookLength, mostElements};
 ghost use Rattle.book_words.specs.Soundness.{sound};
 ghost use Rattle.book_shares.specs.declared.pools.Stage.the-variants.{Operation, Provision};
-ghost use Rattle.book_shares.specs.Closing.{closeRefusal, closeBook, unserved, closeWith, putShares};
-ghost use Rattle.book_shares.specs.Dealing.{sideAt, besides, putShare};
+ghost use Rattle.book_shares.specs.Closing.{closeRefusal, closeBook, unserved, closeWith, handOut};
+ghost use Rattle.book_shares.specs.Dealing.{sideAt, besides, giveShares};
 ghost use Rattle.book_shares.specs.Shares.{closingShare};
 use crate::pools;
 use crate::pools::Stage;
@@ -24,7 +24,7 @@ pub fn close_sound(book: &mut [u64], category: u64) -> u64
 {
     let refusal = refusal_number(book, category);
     if refusal == 0 {
-        hand_out(book, category);
+        settle(book, category);
     }
     refusal
 }
@@ -66,15 +66,15 @@ fn is_unserved(book: &[u64], category: u64, group: u64) -> bool
     ((0 < operation) | (0 < provision)) & (weights::activity_among(book, category, codes) == 0)
 }
 
-// Writes the shares of the category's elements, and its closed word.
-fn hand_out(book: &mut [u64], category: u64)
+// Hands out the pools of the category, and closes it.
+fn settle(book: &mut [u64], category: u64)
     requires { ⌜ closeRefusal (now book) category ≡ 0 ⌝ }
     ensures { λ _. ⌜ now (book .exit) ≡ closeWith (now (book .entry)) category (closingShare (now (book .entry)) category) ⌝ }
 {
     let count = book[book_words::ELEMENTS] as usize;
     let mut operation = [0u64; 256];
     let mut provision = [0u64; 256];
-    hand_sides(
+    settle_sides(
         book,
         category,
         &mut operation[..count],
@@ -83,7 +83,7 @@ fn hand_out(book: &mut [u64], category: u64)
 }
 
 // The same, with the shares of each side written beside the book, into slices that are 0.
-fn hand_sides(book: &mut [u64], category: u64, operation: &mut [u64], provision: &mut [u64])
+fn settle_sides(book: &mut [u64], category: u64, operation: &mut [u64], provision: &mut [u64])
     requires { ⌜ closeRefusal (now book) category ≡ 0 ⌝ }
     requires { ⌜ (length (now operation) ≡ elements (now book)) × (length (now provision) ≡ elements (now book)) ⌝ }
     requires { ⌜ ((k : ℕ) → at (now operation) k ≡ 0) ⌝ }
@@ -94,28 +94,28 @@ fn hand_sides(book: &mut [u64], category: u64, operation: &mut [u64], provision:
 {
     set_shares(book, category, Stage::Operation, operation);
     set_shares(book, category, Stage::Provision, provision);
-    write_shares(book, category, operation, provision);
+    hand_out(book, category, operation, provision);
     let place = category as usize - 1;
     book[book_words::FIRST_CATEGORY + book_words::CATEGORY_WORDS * place + 1] = 1;
 }
 
 // Writes the shares of each element of the category.
-fn write_shares(book: &mut [u64], category: u64, operation: &[u64], provision: &[u64])
+fn hand_out(book: &mut [u64], category: u64, operation: &[u64], provision: &[u64])
     requires { ⌜ bookLength ≤ length (now book) ⌝ }
     requires { ⌜ (length (now operation) ≤ mostElements) × (length (now provision) ≡ length (now operation)) ⌝ }
-    ensures { λ _. ⌜ now (book .exit) ≡ putShares (length (now (operation .entry))) (now (book .entry)) category (besides (now (operation .entry)) (now (provision .entry))) ⌝ }
+    ensures { λ _. ⌜ now (book .exit) ≡ handOut (length (now (operation .entry))) (now (book .entry)) category (besides (now (operation .entry)) (now (provision .entry))) ⌝ }
 {
     let mut place = 0;
     while place < operation.len() {
-        write_share(book, category, place, operation[place], provision[place]);
+        give_shares(book, category, place, operation[place], provision[place]);
         place += 1;
     }
 }
 
 // Writes the shares of the element at this place, where it is of the category.
-fn write_share(book: &mut [u64], category: u64, place: usize, operation: u64, provision: u64)
+fn give_shares(book: &mut [u64], category: u64, place: usize, operation: u64, provision: u64)
     requires { ⌜ (bookLength ≤ length (now book)) × (place < mostElements) ⌝ }
-    ensures { λ _. ⌜ now (book .exit) ≡ putShare (now (book .entry)) category place operation provision ⌝ }
+    ensures { λ _. ⌜ now (book .exit) ≡ giveShares (now (book .entry)) category place operation provision ⌝ }
 {
     let at = book_words::FIRST_ELEMENT + book_words::ELEMENT_WORDS * place;
     if book[at] == category {

@@ -1,14 +1,14 @@
 // Intensity: the emissions of a closed category by its activity.
 ghost use mathlib.Core.Bool.{true, false};
 ghost use mathlib.Core.Path.{_≡_};
-ghost use Prim.Native.Nat.{_^_, _<_, _≤_, _*_};
+ghost use Prim.Native.Nat.{_<_, _≤_, _*_, _^_};
 ghost use Rattle.apportion.specs.Dividing.{largest};
 ghost use Rattle.book_words.specs.Book.{categories};
 ghost use Rattle.book_words.specs.Measures.{between, nearest};
 ghost use Rattle.book_words.specs.Soundness.{sound};
 ghost use Rattle.book_words.specs.Totals.{capped};
-ghost use Rattle.book_shares.specs.Dealing.{sideAt};
-ghost use Rattle.book_shares.specs.Intensities.{intensityReply, intensityRefusal, idle, intensityOf, scale};
+ghost use Rattle.book_shares.specs.Dealing.{sideAt, scaleTens};
+ghost use Rattle.book_shares.specs.Intensities.{intensityReply, intensityRefusal, idle, intensityOf};
 use crate::pools;
 use crate::pools::Stage;
 use crate::sharing;
@@ -118,7 +118,7 @@ fn result(book: &[u64], category: u64, code: u64, stage: Stage) -> u64
 
 // How many tens the scale of a kind is the product of: none for a hub, else three.
 fn scale_tens(kind: u64) -> u64
-    ensures { λ r. ⌜ 10 ^ r ≡ scale kind ⌝ }
+    ensures { λ r. ⌜ r ≡ scaleTens kind ⌝ }
 {
     if kind == 4 {
         return 0;

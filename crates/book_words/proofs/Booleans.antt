@@ -1,6 +1,8 @@
 -- Laws of tests joined by `&&`. Assumes nothing.
 use mathlib.Core.Bool.{Bool, _&&_, true, false, true≢false, cond}
 use mathlib.Core.Path.{_≡_, refl, sym}
+use Prim.Native.Nat.{ℕ, _≤_}
+use native.Mathlib.Omega.{arith}
 
 pub both : (a b : Bool) → a && b ≡ true → (a ≡ true) × (b ≡ true)
 both true b e = (refl, e)
@@ -20,3 +22,13 @@ cond-false t x y e = rw e
 pub cond-same : {A : Type 0} (t : Bool) (x : A) → cond t x x ≡ x
 cond-same true x = refl
 cond-same false x = refl
+
+-- two tests, one inside the other, are the two joined
+pub cond-both : (a b : Bool) (n : ℕ) → cond a (cond b n 0) 0 ≡ cond (a && b) n 0
+cond-both true b n = refl
+cond-both false b n = refl
+
+-- what is added where a test holds is no more than the whole
+pub cond-most : (t : Bool) (n : ℕ) → cond t n 0 ≤ n
+cond-most true n = omega arith
+cond-most false n = omega arith

@@ -1,21 +1,32 @@
 -- What the ranges of ground 7 say as numbers. Assumes nothing.
 use mathlib.Core.Bool.{true, Bool, _||_, false, cond}
+use mathlib.Core.Logic.{_⊎_, ⊎-elim}
 use mathlib.Core.Path.{_≡_, refl}
 use Prim.Native.Nat.{ℕ, _≤_, _<_, _*_}
 use native.Mathlib.Nat.{mul-le-mul}
 use native.Mathlib.Omega.{arith}
 use lib.Dec.{leb, eqb}
-use borrow.Author.Tests.{leb-true, lt-leb, eqb-true, leb-false}
+use borrow.Author.Tests.{leb-true, lt-leb, eqb-true, leb-false, le-leb}
 use Rattle.apportion.specs.Dividing.{largest}
 use Rattle.apportion.specs.Places.{at}
 use Rattle.book_words.specs.Measures.{between, isCode, isFreight, isPassenger, isAmount, isDistance, isHub, activityOf}
-use Rattle.book_words.proofs.Booleans.{both}
+use Rattle.book_words.proofs.Booleans.{both, and-both, and-false}
 
 pub between-low : (low high n : ℕ) → between low high n ≡ true → low ≤ n
 between-low low high n e = leb-true low n (both (leb low n) (leb n high) e .0)
 
 pub between-high : (low high n : ℕ) → between low high n ≡ true → n ≤ high
 between-high low high n e = leb-true n high (both (leb low n) (leb n high) e .1)
+
+-- a number in a range, and one that is not
+pub between-inside : (low high n : ℕ) → low ≤ n → n ≤ high → between low high n ≡ true
+between-inside low high n l h = and-both (leb low n) (leb n high) (le-leb low n l) (le-leb n high h)
+
+pub between-outside : (low high n : ℕ) → (n < low) ⊎ (high < n) → between low high n ≡ false
+between-outside low high n =
+    ⊎-elim
+    (λ (l : n < low). rw (lt-leb low n l))
+    (λ (h : high < n). and-false (leb low n) (leb n high) (lt-leb n high h))
 
 pub code-most : (code : ℕ) → isCode code ≡ true → code ≤ 1000
 code-most code e = go (isFreight code) refl e

@@ -1,5 +1,5 @@
 -- The rules of a record, by what is known of its category's number. Assumes nothing.
-use mathlib.Core.Bool.{not, true, false, _&&_, cond, Bool}
+use mathlib.Core.Bool.{not, true, false, _&&_, cond}
 use mathlib.Core.List.{List}
 use mathlib.Core.Path.{_≡_, sym, _∙_, ap}
 use Prim.Native.Nat.{ℕ, _<_, _≤_, _+_, _*_}
@@ -16,7 +16,7 @@ use Rattle.book_words.specs.Parts.{Limited}
 use Rattle.book_words.specs.Soundness.{entryFine, entrySuits, quotedSuits, elementFine, elementSuits, sharesFine, measured, sharesWait}
 use Rattle.book_words.specs.Totals.{Side, unstruckOf, unstruck, allUnstruck, capped, sharesOf, operation, provision}
 use Rattle.apportion.proofs.Sums.{sum-le}
-use Rattle.book_words.proofs.Booleans.{both, cond-false, and-both}
+use Rattle.book_words.proofs.Booleans.{both, cond-false, and-both, cond-most}
 use Rattle.book_words.proofs.Capping.{capped-equal}
 
 module _ (ws : List ℕ) where
@@ -62,12 +62,8 @@ module _ (ws : List ℕ) where
         sum-le (entries ws)
             (λ p. cond (eqb (entryAt ws p .category) category) (unstruck side (entryAt ws p)) 0)
             (λ p. unstruck side (entryAt ws p))
-            (λ p i. only (eqb (entryAt ws p .category) category) (unstruck side (entryAt ws p))),
+            (λ p i. cond-most (eqb (entryAt ws p .category) category) (unstruck side (entryAt ws p))),
       )
-    where
-      only : (t : Bool) (n : ℕ) → cond t n 0 ≤ n
-      only true n = omega arith
-      only false n = omega arith
 
   pub shares-open : (place : ℕ) (r : Category) → r ≡ categoryAt ws place → r .closed ≡ 0 → true ≡ sharesFine ws place
   unfolding sharesFine

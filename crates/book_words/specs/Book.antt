@@ -113,6 +113,14 @@ putElement ws place r =
 abbrev pub strikeEntry : List ℕ → ℕ → List ℕ
 strikeEntry ws number = set ws (36 + 5 * (number - 1) + 4) 1
 
+-- a category's closed word is set
+abbrev pub closeCategory : List ℕ → ℕ → List ℕ
+closeCategory ws number = set ws (4 + 2 * (number - 1) + 1) 1
+
+-- an element's two share words are written
+abbrev pub putShares : List ℕ → ℕ → ℕ → ℕ → List ℕ
+putShares ws place byOperation byProvision = puts ws ((356 + 8 * place + 6, byOperation) ∷ (356 + 8 * place + 7, byProvision) ∷ [])
+
 -- a record is appended: written at the place after the last, and counted
 unfoldable pub addCategory : List ℕ → Category → List ℕ
 addCategory ws r = set (putCategory ws (categories ws) r) 1 (categories ws + 1)

@@ -34,7 +34,7 @@ pub left-is : {Answer : Type 0} {answer answer′ : Answer} {book book′ waitin
     → _≡_ {A = Loan} (record { book = book; waiting = waiting′ }) (record { book = book′; waiting = put waiting (text answer′) })
 left-is text waiting made put-is = rw (put-is, made .0, made .1)
 
--- operations 1 to 6, on the first `n` words of the array, as many as are lent
+-- operations 1 to 7 and 9, on the first `n` words of the array, as many as are lent
 pub call-returned : (words : Words) (n : ℕ) (weights array buffer book buffer′ : List ℕ) (state : State) (after : Output)
     → n ≡ min (state .lent) (length array)
     → loanOf book buffer′ after ≡ answered words (loanOf (take n array) buffer (state .output))

@@ -1,52 +1,82 @@
-use mathlib.Core.Path.{sym}
+-- `book_shares::closings::hand_out` meets its contract: up to a place the elements of the category have their shares.
+-- Assumes nothing.
+use mathlib.Core.List.{List}
+use mathlib.Core.Path.{_≡_, refl, ap, _∙_}
+use Prim.Native.Nat.{_≤_, _-_, ℕ}
 use native.Mathlib.Omega.{arith}
-use lib.Seq.{length-take-le}
+use lib.ListN.{length}
 use borrow.Author.Needs.{needs}
-use Rattle.book_words.specs.Book.{elements}
-use Rattle.book_words.specs.Parts.{CountsWithin}
-use Rattle.book_words.proofs.Facts.{sound-counted}
-use Rattle.book_shares.proofs.Closable.{closable, zeros-at}
+use Rattle.apportion.specs.Places.{at}
+use Rattle.book_shares.specs.Closing.{handOut}
+use Rattle.book_shares.specs.Dealing.{besides, giveShares}
+use Rattle.book_shares.proofs.Closed.{put-length, put-next}
 use Rattle.book_shares.proofs.closings.hand_out.Statement.{statement}
 use Rattle.book_shares.proofs.closings.hand_out.Tie as tie
 
-counts : (s : tie.Start) → CountsWithin (s .args .book .now)
-counts s = sound-counted (s .args .book .now) (closable (s .args .book .now) (s .args .category) (s .pre) .fine)
+abbrev Inv-loop : tie.InvT-loop
+Inv-loop book₀ category operation provision place₀ book place = (place ≤ length operation) × (book ≡ handOut place book₀ category (besides operation provision))
 
-slice-read-count : tie.Need-slice-read-count
-slice-read-count c = omega (arith, counts (c .before .before))
+abbrev μ-loop : tie.MeasureT-loop
+μ-loop book₀ category operation provision place₀ book place = length operation - place
 
-array-borrow-prefix-operation : tie.Need-array-borrow-prefix-operation
-array-borrow-prefix-operation c = counts (c .before .before .before) .elements-most
+loop-holds : tie.Need-loop-holds Inv-loop μ-loop
+loop-holds c = (omega arith, refl)
 
-slice-aggregate-hand-sides : tie.Need-slice-aggregate-hand-sides
-slice-aggregate-hand-sides c = sym (length-take-le _ _ (counts (c .before .before .before .before) .elements-most))
+mul-give-shares : tie.Need-mul-give-shares Inv-loop μ-loop
+mul-give-shares c = search needs
 
-array-borrow-prefix-provision : tie.Need-array-borrow-prefix-provision
-array-borrow-prefix-provision c = counts (c .before .before .before .before) .elements-most
+shared-slice-read-give-shares : tie.Need-shared-slice-read-give-shares Inv-loop μ-loop
+shared-slice-read-give-shares c = search needs
 
-slice-aggregate-hand-sides-2 : tie.Need-slice-aggregate-hand-sides-2
-slice-aggregate-hand-sides-2 c = sym (length-take-le _ _ (counts (c .before .before .before .before .before) .elements-most))
+mul-give-shares-2 : tie.Need-mul-give-shares-2 Inv-loop μ-loop
+mul-give-shares-2 c = search needs
 
-hand-sides-requires : tie.Need-hand-sides-requires
-hand-sides-requires c κs =
-    let whole = length-take-le _ _ (counts (c .before .before .before .before .before) .elements-most) in
-    (c .before .before .before .before .before .pre, ((whole, whole), (zeros-at (elements (c .before .before .before .before .before .args .book .now)) 256, zeros-at (elements (c .before .before .before .before .before .args .book .now)) 256)))
+shared-slice-read-give-shares-2 : tie.Need-shared-slice-read-give-shares-2 Inv-loop μ-loop
+shared-slice-read-give-shares-2 c = search needs
 
-same-length : tie.Need-same-length
-same-length c = search needs
+give-shares-requires : tie.Need-give-shares-requires Inv-loop μ-loop
+give-shares-requires c κs =
+    let long = put-length (c .before .before .before .before .before .before .before .before .args .book .now) (c .before .before .before .before .before .before .before .before .args .category) (besides (c .before .before .before .before .before .before .before .before .args .operation .now) (c .before .before .before .before .before .before .before .before .args .provision .now)) (c .before .before .before .before .loop .place) in
+    (omega (arith, c .before .before .before .before .before .before .before .before .pre .0, long, ap length (c .before .before .before .before .loop .inv .1)), omega (arith, c .before .before .before .before .before .before .before .before .pre .1 .0, c .before .before .before .loop-test .taken))
 
-returns : tie.Need-returns
-returns c = c .before .before .before .before .hand-sides .ensures .0
+add-place : tie.Need-add-place Inv-loop μ-loop
+add-place c = search needs
+
+loop-less : tie.Need-loop-less Inv-loop μ-loop
+loop-less c = omega arith
+
+loop-again : tie.Need-loop-again Inv-loop μ-loop
+loop-again c = (
+  omega arith,
+  c .before .before .give-shares .ensures
+      ∙ ap (λ (ws : List ℕ). giveShares ws (c .before .before .before .before .before .before .before .before .before .before .before .args .category) (c .before .before .before .before .before .before .before .loop .place) (at (c .before .before .before .before .before .before .before .before .before .before .before .args .operation .now) (c .before .before .before .before .before .before .before .loop .place)) (at (c .before .before .before .before .before .before .before .before .before .before .before .args .provision .now) (c .before .before .before .before .before .before .before .loop .place))) (c .before .before .before .before .before .before .before .loop .inv .1)
+      ∙ put-next (c .before .before .before .before .before .before .before .before .before .before .before .args .book .now) (c .before .before .before .before .before .before .before .before .before .before .before .args .category) (besides (c .before .before .before .before .before .before .before .before .before .before .before .args .operation .now) (c .before .before .before .before .before .before .before .before .before .before .before .args .provision .now)) (c .before .before .before .before .before .before .before .loop .place),
+)
+
+same-length : tie.Need-same-length Inv-loop μ-loop
+same-length c =
+    let long = put-length (c .before .before .before .before .before .args .book .now) (c .before .before .before .before .before .args .category) (besides (c .before .before .before .before .before .args .operation .now) (c .before .before .before .before .before .args .provision .now)) (c .before .loop .place) in
+    ap length (c .before .loop .inv .1) ∙ long
+
+returns : tie.Need-returns Inv-loop μ-loop
+returns c =
+    let end : c .before .loop .place ≡ length (c .before .before .before .before .before .args .operation .now) = omega (arith, c .before .loop .inv .0, c .loop-test .left) in
+    c .before .loop .inv .1 ∙ ap (λ (n : ℕ). handOut n (c .before .before .before .before .before .args .book .now) (c .before .before .before .before .before .args .category) (besides (c .before .before .before .before .before .args .operation .now) (c .before .before .before .before .before .args .provision .now))) end
 
 pub hand-out-spec : {M : Type 1} → statement M
 hand-out-spec =
     tie.close
     (tie.spec
-    slice-read-count
-    array-borrow-prefix-operation
-    slice-aggregate-hand-sides
-    array-borrow-prefix-provision
-    slice-aggregate-hand-sides-2
-    hand-sides-requires
+    Inv-loop
+    μ-loop
+    loop-holds
+    mul-give-shares
+    shared-slice-read-give-shares
+    mul-give-shares-2
+    shared-slice-read-give-shares-2
+    give-shares-requires
+    add-place
+    loop-less
+    loop-again
     same-length
     returns)

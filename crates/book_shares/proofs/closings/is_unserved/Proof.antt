@@ -1,3 +1,4 @@
+-- `book_shares::closings::is_unserved` meets its contract: the sums are those of the definition. Assumes nothing.
 use borrow.Author.Needs.{needs}
 use Rattle.book_shares.proofs.closings.is_unserved.Statement.{statement}
 use Rattle.book_shares.proofs.closings.is_unserved.Tie as tie

@@ -1,3 +1,5 @@
+-- `book_shares::closings::refusal_number` meets its contract: each return is the ground of its own test, after those that
+-- did not hold. Assumes nothing.
 use mathlib.Core.Bool.{not}
 use mathlib.Core.Path.{_≡_, ap, _∙_, sym}
 use Prim.Native.Nat.{ℕ}

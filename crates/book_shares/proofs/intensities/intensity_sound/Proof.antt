@@ -1,3 +1,5 @@
+-- `book_shares::intensities::intensity_sound` meets its contract: the results of an accepted call are within 10^15, so not
+-- capped. Assumes nothing.
 use mathlib.Core.Path.{sym, _∙_}
 use borrow.Author.Needs.{needs}
 use Rattle.book_words.specs.Totals.{operation, provision}

@@ -1,3 +1,4 @@
+-- `book_shares::intensities::is_idle` meets its contract: the sums are those of the definition. Assumes nothing.
 use borrow.Author.Needs.{needs}
 use borrow.Author.Tests.{eq-eqb, ne-eqb}
 use Rattle.book_shares.proofs.intensities.is_idle.Statement.{statement}

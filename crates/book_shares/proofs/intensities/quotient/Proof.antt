@@ -1,3 +1,5 @@
+-- `book_shares::intensities::quotient` meets its contract: the amount with some of its tens is held by its quotient and
+-- remainder, ten by ten. Assumes nothing.
 use native.Mathlib.Omega.{arith}
 use borrow.Author.Needs.{needs}
 use Rattle.book_shares.proofs.Quotients.{Shifting, shifting-start, shifting-next, shifting-done}

@@ -1,9 +1,9 @@
+-- `book_shares::intensities::result` meets its contract: each quotient is that of the definition, capped. Assumes nothing.
 use mathlib.Core.Path.{ap, _∙_}
 use borrow.Author.Needs.{needs}
 use Rattle.book_words.specs.declared.records.Category.{Category}
 use Rattle.book_shares.specs.declared.sharing.Parts.{Parts}
-use Rattle.book_shares.specs.Dealing.{sideAt}
-use Rattle.book_shares.specs.Intensities.{scale}
+use Rattle.book_shares.specs.Dealing.{sideAt, scaleTens}
 use Rattle.book_shares.specs.Sums.{passengers, freight, ofGroup}
 use Rattle.book_words.proofs.Numbered.{category-there}
 use Rattle.book_shares.proofs.Bounds.{activity-limited}
@@ -44,7 +44,7 @@ quotient-requires-2 c κs =
 returns-2 : tie.Need-returns-2
 returns-2 c =
     freight-result (c .before .before .before .before .before .before .before .before .args .book .now) (c .before .before .before .before .before .before .before .before .args .category) (c .before .before .before .before .before .before .before .before .args .code) (sideAt (c .before .before .before .before .before .before .before .before .args .stage)) _ _ _ _ (c .before .before .before .before .before .if1 .left)
-    (c .before .before .before .scale-tens .ensures ∙ ap (λ (r : Category). scale (r .kind)) (category-there (c .before .before .before .before .before .before .before .before .args .book .now) (c .before .before .before .before .before .before .before .before .args .category) _ (c .before .before .before .before .category-of .ensures) (c .before .before .before .before .before .before .before .before .pre .1 .0)))
+    (c .before .before .before .scale-tens .ensures ∙ ap (λ (r : Category). scaleTens (r .kind)) (category-there (c .before .before .before .before .before .before .before .before .args .book .now) (c .before .before .before .before .before .before .before .before .args .category) _ (c .before .before .before .before .category-of .ensures) (c .before .before .before .before .before .before .before .before .pre .1 .0)))
     (ap (λ (p : Parts). p .freight) (c .before .before .before .before .before .before .divide-all .ensures)) (c .before .before .activity-among2 .ensures) (c .before .quotient2 .ensures) (c .if2 .taken)
 
 pool-requires : tie.Need-pool-requires
@@ -64,7 +64,7 @@ add-requires c κs = search needs
 returns-3 : tie.Need-returns-3
 returns-3 c =
     group-result (c .before .before .before .before .before .before .before .before .before .before .before .before .args .book .now) (c .before .before .before .before .before .before .before .before .before .before .before .before .args .category) (c .before .before .before .before .before .before .before .before .before .before .before .before .args .code) (sideAt (c .before .before .before .before .before .before .before .before .before .before .before .before .args .stage)) _ _ _ _ (c .before .before .before .before .before .before .before .before .before .if1 .left)
-    (c .before .before .before .before .before .before .before .scale-tens .ensures ∙ ap (λ (r : Category). scale (r .kind)) (category-there (c .before .before .before .before .before .before .before .before .before .before .before .before .args .book .now) (c .before .before .before .before .before .before .before .before .before .before .before .before .args .category) _ (c .before .before .before .before .before .before .before .before .category-of .ensures) (c .before .before .before .before .before .before .before .before .before .before .before .before .pre .1 .0)))
+    (c .before .before .before .before .before .before .before .scale-tens .ensures ∙ ap (λ (r : Category). scaleTens (r .kind)) (category-there (c .before .before .before .before .before .before .before .before .before .before .before .before .args .book .now) (c .before .before .before .before .before .before .before .before .before .before .before .before .args .category) _ (c .before .before .before .before .before .before .before .before .category-of .ensures) (c .before .before .before .before .before .before .before .before .before .before .before .before .pre .1 .0)))
     (ap (λ (p : Parts). p .freight) (c .before .before .before .before .before .before .before .before .before .before .divide-all .ensures)) (c .before .before .before .before .before .before .activity-among2 .ensures) (c .before .before .before .before .before .quotient2 .ensures) _ _ _ _ (c .before .before .before .before .if2 .left) (c .before .before .before .pool .ensures) (c .before .before .activity-among3 .ensures) (c .before .quotient3 .ensures) (c .add .ensures)
 
 pub result-spec : {M : Type 1} → statement M

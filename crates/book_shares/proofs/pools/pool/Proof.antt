@@ -1,3 +1,5 @@
+-- `book_shares::pools::pool` meets its contract: up to an entry the sum is that of the definition, and all of it is within
+-- 10^18. Assumes nothing.
 use mathlib.Core.Path.{_∙_, ap}
 use Prim.Native.Nat.{_-_, ℕ, _+_}
 use native.Mathlib.Omega.{arith}

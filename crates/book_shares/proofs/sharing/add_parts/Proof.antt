@@ -1,3 +1,4 @@
+-- `book_shares::sharing::add_parts` meets its contract: up to a place each share has its part. Assumes nothing.
 use mathlib.Core.List.{List}
 use mathlib.Core.Path.{_≡_, refl, _∙_, ap}
 use Prim.Native.Nat.{_≤_, _+_, _-_, _<_, ℕ}

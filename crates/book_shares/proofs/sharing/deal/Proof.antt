@@ -1,3 +1,4 @@
+-- `book_shares::sharing::deal` meets its contract: the elements fit the arrays. Assumes nothing.
 use mathlib.Core.Path.{sym, _∙_}
 use Prim.Native.Nat.{_≤_}
 use native.Mathlib.Omega.{arith}

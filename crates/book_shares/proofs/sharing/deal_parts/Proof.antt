@@ -1,3 +1,5 @@
+-- `book_shares::sharing::deal_parts` meets its contract: the division is accepted, and no share passes 64 bits. Assumes
+-- nothing.
 use mathlib.Core.List.{List}
 use mathlib.Core.Path.{_∙_, ap, sym}
 use Prim.Native.Nat.{ℕ, _+_}
@@ -7,7 +9,7 @@ use Rattle.apportion.specs.Places.{listBelow, at}
 use Rattle.book_words.specs.Book.{elements}
 use Rattle.book_shares.specs.Shares.{weights, partAt}
 use Rattle.apportion.proofs.Laws.{shares-length}
-use Rattle.book_shares.proofs.Closable.{amount-divided, dealt-within}
+use Rattle.book_shares.proofs.Dealt.{amount-divided, dealt-within}
 use Rattle.book_shares.proofs.Shared.{weights-length}
 use Rattle.book_shares.proofs.sharing.deal_parts.Statement.{statement}
 use Rattle.book_shares.proofs.sharing.deal_parts.Tie as tie
@@ -22,8 +24,7 @@ add-parts-requires : tie.Need-add-parts-requires
 add-parts-requires c κs =
     let ws = c .before .before .before .before .before .before .before .before .before .before .before .before .before .before .before .args .book .now in
     let parts = amount-divided ws (c .before .before .before .before .before .before .before .before .before .before .before .before .before .before .before .args .category) (c .before .before .before .before .before .before .before .before .before .before .before .before .before .before .before .args .codes) (c .before .before .before .before .before .before .before .before .before .before .before .before .before .before .before .args .amount) (c .before .before .before .before .before .before .before .before .before .before .before .before .before .before .before .pre .0) (c .before .before .before .before .before .before .before .before .before .before .before .before .before .before .before .pre .1 .0) _ (c .before .before .before .before .before .before .before .before .before .before .before .before .before .before .before .args .parts .now) _ (c .before .before .before .before .before .before .before .before .before .set-weights .ensures) (c .before .before .before .before .before .before .before .before .before .before .before .before .before .before .before .pre .1 .1 .0 .1) (c .before .before .before .before .divide .ensures .1) in
-    let long = shares-length (c .before .before .before .before .before .before .before .before .before .before .before .before .before .before .before .args .amount) (weights ws (c .before .before .before .before .before .before .before .before .before .before .before .before .before .before .before .args .category) (c .before .before .before .before .before .before .before .before .before .before .before .before .before .before .before .args .codes)) ∙ weights-length ws (c .before .before .before .before .before .before .before .before .before .before .before .before .before .before .before .args .category) (c .before .before .before .before .before .before .before .before .before .before .before .before .before .before .before .args .codes) in
-    (
+    let long = shares-length (c .before .before .before .before .before .before .before .before .before .before .before .before .before .before .before .args .amount) (weights ws (c .before .before .before .before .before .before .before .before .before .before .before .before .before .before .before .args .category) (c .before .before .before .before .before .before .before .before .before .before .before .before .before .before .before .args .codes)) ∙ weights-length ws (c .before .before .before .before .before .before .before .before .before .before .before .before .before .before .before .args .category) (c .before .before .before .before .before .before .before .before .before .before .before .before .before .before .before .args .codes) in (
       ap length parts ∙ long ∙ sym (c .before .before .before .before .before .before .before .before .before .before .before .before .before .before .before .pre .1 .1 .0 .2),
       (λ k. rw parts (dealt-within ws (c .before .before .before .before .before .before .before .before .before .before .before .before .before .before .before .args .category) (c .before .before .before .before .before .before .before .before .before .before .before .before .before .before .before .args .codes) (c .before .before .before .before .before .before .before .before .before .before .before .before .before .before .before .args .amount) (c .before .before .before .before .before .before .before .before .before .before .before .before .before .before .before .pre .1 .0) k), c .before .before .before .before .before .before .before .before .before .before .before .before .before .before .before .pre .1 .1 .1),
     )
@@ -41,8 +42,7 @@ returns : tie.Need-returns
 unfolding partAt
 returns c =
     let ws = c .before .before .before .before .before .before .before .before .before .before .before .before .before .before .before .before .before .before .args .book .now in
-    let parts = amount-divided ws (c .before .before .before .before .before .before .before .before .before .before .before .before .before .before .before .before .before .before .args .category) (c .before .before .before .before .before .before .before .before .before .before .before .before .before .before .before .before .before .before .args .codes) (c .before .before .before .before .before .before .before .before .before .before .before .before .before .before .before .before .before .before .args .amount) (c .before .before .before .before .before .before .before .before .before .before .before .before .before .before .before .before .before .before .pre .0) (c .before .before .before .before .before .before .before .before .before .before .before .before .before .before .before .before .before .before .pre .1 .0) _ (c .before .before .before .before .before .before .before .before .before .before .before .before .before .before .before .before .before .before .args .parts .now) _ (c .before .before .before .before .before .before .before .before .before .before .before .before .set-weights .ensures) (c .before .before .before .before .before .before .before .before .before .before .before .before .before .before .before .before .before .before .pre .1 .1 .0 .1) (c .before .before .before .before .before .before .before .divide .ensures .1) in
-    (
+    let parts = amount-divided ws (c .before .before .before .before .before .before .before .before .before .before .before .before .before .before .before .before .before .before .args .category) (c .before .before .before .before .before .before .before .before .before .before .before .before .before .before .before .before .before .before .args .codes) (c .before .before .before .before .before .before .before .before .before .before .before .before .before .before .before .before .before .before .args .amount) (c .before .before .before .before .before .before .before .before .before .before .before .before .before .before .before .before .before .before .pre .0) (c .before .before .before .before .before .before .before .before .before .before .before .before .before .before .before .before .before .before .pre .1 .0) _ (c .before .before .before .before .before .before .before .before .before .before .before .before .before .before .before .before .before .before .args .parts .now) _ (c .before .before .before .before .before .before .before .before .before .before .before .before .set-weights .ensures) (c .before .before .before .before .before .before .before .before .before .before .before .before .before .before .before .before .before .before .pre .1 .1 .0 .1) (c .before .before .before .before .before .before .before .divide .ensures .1) in (
       c .before .before .before .before .before .before .before .before .before .before .before .before .set-weights .ensures,
       (
         parts,

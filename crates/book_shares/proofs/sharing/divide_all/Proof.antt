@@ -1,10 +1,12 @@
+-- `book_shares::sharing::divide_all` meets its contract: the division of A is accepted, and its shares are the two parts.
+-- Assumes nothing.
 use mathlib.Core.List.{List}
 use mathlib.Core.Path.{ap, refl}
 use Prim.Native.Nat.{ℕ}
 use borrow.Author.Needs.{needs}
 use Rattle.apportion.specs.Places.{at}
 use Rattle.book_shares.specs.Dealing.{sideAt}
-use Rattle.book_shares.proofs.Closable.{all-divided}
+use Rattle.book_shares.proofs.Dealt.{all-divided}
 use Rattle.book_shares.proofs.sharing.divide_all.Statement.{statement}
 use Rattle.book_shares.proofs.sharing.divide_all.Tie as tie
 

@@ -1,3 +1,5 @@
+-- `book_shares::sharing::set_shares` meets its contract: the four amounts can be dealt out, and their parts are the shares
+-- of the definition. Assumes nothing.
 use mathlib.Core.Path.{ap, _∙_, sym}
 use Prim.Native.Nat.{ℕ, _≤_, _*_}
 use native.Mathlib.Omega.{arith}
@@ -8,7 +10,8 @@ use Rattle.book_words.specs.Book.{elements}
 use Rattle.book_shares.specs.Dealing.{sideAt, Dealable}
 use Rattle.book_shares.specs.Sums.{freight, passengers, ofGroup}
 use Rattle.apportion.proofs.Lists.{list-length}
-use Rattle.book_shares.proofs.Closable.{closable, freight-dealable, Closable, passengers-dealable, chilled-dealable, frozen-dealable, added-within, part-within, added-four, shares-dealt}
+use Rattle.book_shares.proofs.Closable.{closable, freight-dealable, Closable, passengers-dealable, chilled-dealable, frozen-dealable}
+use Rattle.book_shares.proofs.Dealt.{added-within, part-within, added-four, shares-dealt}
 use Rattle.book_shares.proofs.sharing.set_shares.Statement.{statement}
 use Rattle.book_shares.proofs.sharing.set_shares.Tie as tie
 
@@ -57,34 +60,31 @@ deal-requires : tie.Need-deal-requires
 deal-requires c κs = (settled (c .before .before .before .before .before .before) .fine, (freight-dealt (c .before .before .before), (c .before .before .before .before .before .before .pre .1 .0, λ k. omega (arith, c .before .before .before .before .before .before .pre .1 .1 k))))
 
 deal-requires-2 : tie.Need-deal-requires-2
-deal-requires-2 c κs =
-    (
-      settled (c .before .before .before .before .before .before .before .before .before .before) .fine,
-      (
-        passengers-dealt (c .before .before .before .before .before .before .before),
-        (ap length (c .before .before .before .deal .ensures) ∙ list-length (elements (c .before .before .before .before .before .before .before .before .before .before .args .book .now)) _, λ k. omega (arith, few-1 (c .before) k)),
-      ),
-    )
+deal-requires-2 c κs = (
+  settled (c .before .before .before .before .before .before .before .before .before .before) .fine,
+  (
+    passengers-dealt (c .before .before .before .before .before .before .before),
+    (ap length (c .before .before .before .deal .ensures) ∙ list-length (elements (c .before .before .before .before .before .before .before .before .before .before .args .book .now)) _, λ k. omega (arith, few-1 (c .before) k)),
+  ),
+)
 
 deal-requires-3 : tie.Need-deal-requires-3
-deal-requires-3 c κs =
-    (
-      settled (c .before .before .before .before .before .before .before .before .before .before .before .before .before .before) .fine,
-      (
-        chilled-dealt (c .before .before .before .before .before .before .before .before .before .before),
-        (ap length (c .before .before .before .deal2 .ensures) ∙ list-length (elements (c .before .before .before .before .before .before .before .before .before .before .before .before .before .before .args .book .now)) _, λ k. omega (arith, few-2 (c .before) k)),
-      ),
-    )
+deal-requires-3 c κs = (
+  settled (c .before .before .before .before .before .before .before .before .before .before .before .before .before .before) .fine,
+  (
+    chilled-dealt (c .before .before .before .before .before .before .before .before .before .before),
+    (ap length (c .before .before .before .deal2 .ensures) ∙ list-length (elements (c .before .before .before .before .before .before .before .before .before .before .before .before .before .before .args .book .now)) _, λ k. omega (arith, few-2 (c .before) k)),
+  ),
+)
 
 deal-requires-4 : tie.Need-deal-requires-4
-deal-requires-4 c κs =
-    (
-      settled (c .before .before .before .before .before .before .before .before .before .before .before .before .before .before .before .before .before .before) .fine,
-      (
-        frozen-dealt (c .before .before .before .before .before .before .before .before .before .before .before .before .before),
-        (ap length (c .before .before .before .deal3 .ensures) ∙ list-length (elements (c .before .before .before .before .before .before .before .before .before .before .before .before .before .before .before .before .before .before .args .book .now)) _, few-3 (c .before)),
-      ),
-    )
+deal-requires-4 c κs = (
+  settled (c .before .before .before .before .before .before .before .before .before .before .before .before .before .before .before .before .before .before) .fine,
+  (
+    frozen-dealt (c .before .before .before .before .before .before .before .before .before .before .before .before .before),
+    (ap length (c .before .before .before .deal3 .ensures) ∙ list-length (elements (c .before .before .before .before .before .before .before .before .before .before .before .before .before .before .before .before .before .before .args .book .now)) _, few-3 (c .before)),
+  ),
+)
 
 same-length : tie.Need-same-length
 same-length c = ap length (c .before .before .deal4 .ensures) ∙ list-length (elements (c .before .before .before .before .before .before .before .before .before .before .before .before .before .before .before .before .before .before .before .before .before .args .book .now)) _ ∙ sym (c .before .before .before .before .before .before .before .before .before .before .before .before .before .before .before .before .before .before .before .before .before .pre .1 .0)

@@ -1,3 +1,5 @@
+-- `book_shares::weights::activity_among` meets its contract: up to an element the sum is that of the definition, and all of
+-- it is within 10^18. Assumes nothing.
 use mathlib.Core.Path.{_∙_, ap}
 use Prim.Native.Nat.{_-_, ℕ, _+_}
 use native.Mathlib.Omega.{arith}

@@ -1,3 +1,5 @@
+-- `book_shares::weights::passenger_mass` meets its contract: up to an element the sum is that of the definition, and all of
+-- it is within 10^17. Assumes nothing.
 use mathlib.Core.Path.{_∙_, ap}
 use Prim.Native.Nat.{_*_, _-_, ℕ, _+_}
 use native.Mathlib.Omega.{arith}

@@ -1,3 +1,5 @@
+-- `book_shares::weights::set_weights` meets its contract: up to a place the weights are those of the definition. Assumes
+-- nothing.
 use mathlib.Core.Path.{_≡_, refl, _∙_, ap}
 use Prim.Native.Nat.{_≤_, _-_, _<_, ℕ}
 use native.Mathlib.Omega.{arith}

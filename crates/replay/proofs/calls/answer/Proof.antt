@@ -23,6 +23,12 @@ enrol-requires c κs = search needs
 quote-requires : tie.Need-quote-requires
 quote-requires c κs = search needs
 
+close-requires : tie.Need-close-requires
+close-requires c κs = search needs
+
+intensity-requires : tie.Need-intensity-requires
+intensity-requires c κs = search needs
+
 same-length : tie.Need-same-length
 same-length c = search needs
 
@@ -75,15 +81,35 @@ returns-6 : tie.Need-returns-6
 unfolding answered
 returns-6 c =
     let made = c .before .before in
+    rw (made .before .before .before .match .keys6) (made .quote .ensures)
+
+same-length-7 : tie.Need-same-length-7
+same-length-7 c = search needs
+
+returns-7 : tie.Need-returns-7
+unfolding answered
+returns-7 c =
+    let made = c .before .before in
+    rw (made .before .before .before .match .keys7) (made .close .ensures)
+
+same-length-8 : tie.Need-same-length-8
+same-length-8 c = search needs
+
+returns-8 : tie.Need-returns-8
+unfolding answered
+returns-8 c =
+    let made = c .before .before in
     let other = made .before .before .before .match .rest in
     rw (
-      ne-eqb _ 1 (other .0 .0 .0 .0 .1),
-      ne-eqb _ 2 (other .0 .0 .0 .1),
-      ne-eqb _ 3 (other .0 .0 .1),
-      ne-eqb _ 4 (other .0 .1),
-      ne-eqb _ 5 (other .1),
+      ne-eqb _ 1 (other .0 .0 .0 .0 .0 .0 .1),
+      ne-eqb _ 2 (other .0 .0 .0 .0 .0 .1),
+      ne-eqb _ 3 (other .0 .0 .0 .0 .1),
+      ne-eqb _ 4 (other .0 .0 .0 .1),
+      ne-eqb _ 5 (other .0 .0 .1),
+      ne-eqb _ 6 (other .0 .1),
+      ne-eqb _ 7 (other .1),
     )
-    (made .quote .ensures)
+    (made .intensity .ensures)
 
 pub answer-spec : {M : Type 1} → statement M
 answer-spec =
@@ -95,6 +121,8 @@ answer-spec =
     strike-requires
     enrol-requires
     quote-requires
+    close-requires
+    intensity-requires
     same-length
     returns
     same-length-2
@@ -106,4 +134,8 @@ answer-spec =
     same-length-5
     returns-5
     same-length-6
-    returns-6)
+    returns-6
+    same-length-7
+    returns-7
+    same-length-8
+    returns-8)

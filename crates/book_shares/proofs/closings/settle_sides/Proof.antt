@@ -1,3 +1,5 @@
+-- `book_shares::closings::settle_sides` meets its contract: the shares of each side are those of the definition, and the
+-- words are written as it says. Assumes nothing.
 use mathlib.Core.List.{List}
 use mathlib.Core.Path.{ap, _∙_, sym}
 use Prim.Native.Nat.{_≤_, ℕ, _+_, _*_, _-_}
@@ -10,15 +12,16 @@ use Rattle.book_shares.specs.Shares.{closingShare}
 use Rattle.apportion.proofs.Lists.{list-length}
 use Rattle.book_words.proofs.Facts.{sound-counted}
 use Rattle.book_words.proofs.Ranges.{between-high, between-low}
-use Rattle.book_shares.proofs.Closable.{Closable, closable, sides-written}
-use Rattle.book_shares.proofs.closings.hand_sides.Statement.{statement}
-use Rattle.book_shares.proofs.closings.hand_sides.Tie as tie
+use Rattle.book_shares.proofs.Closable.{Closable, closable}
+use Rattle.book_shares.proofs.Dealt.{sides-written}
+use Rattle.book_shares.proofs.closings.settle_sides.Statement.{statement}
+use Rattle.book_shares.proofs.closings.settle_sides.Tie as tie
 
 settled : (s : tie.Start) → Closable (s .args .book .now) (s .args .category)
 settled s = closable (s .args .book .now) (s .args .category) (s .pre .0)
 
 -- the category, and the length that is left
-inside : (c : tie.After-slice-known6) → (1 ≤ c .before .before .before .before .before .before .before .before .before .before .before .before .before .before .before .before .before .before .before .args .category) × (c .before .before .before .before .before .before .before .before .before .before .before .before .before .before .before .before .before .before .before .args .category ≤ mostCategories) × (bookLength ≤ length (c .before .before .write-shares .last .0))
+inside : (c : tie.After-slice-known6) → (1 ≤ c .before .before .before .before .before .before .before .before .before .before .before .before .before .before .before .before .before .before .before .args .category) × (c .before .before .before .before .before .before .before .before .before .before .before .before .before .before .before .before .before .before .before .args .category ≤ mostCategories) × (bookLength ≤ length (c .before .before .hand-out .last .0))
 inside c =
     let ws = c .before .before .before .before .before .before .before .before .before .before .before .before .before .before .before .before .before .before .before .args .book .now in
     let k = settled (c .before .before .before .before .before .before .before .before .before .before .before .before .before .before .before .before .before .before .before) in
@@ -26,7 +29,7 @@ inside c =
     let high = between-high 1 (categories ws) (c .before .before .before .before .before .before .before .before .before .before .before .before .before .before .before .before .before .before .before .args .category) (k .numbered) in (
       between-low 1 (categories ws) (c .before .before .before .before .before .before .before .before .before .before .before .before .before .before .before .before .before .before .before .args .category) (k .numbered),
       omega (arith, high, counts),
-      omega (arith, counts, c .before .before .write-shares .kept .0),
+      omega (arith, counts, c .before .before .hand-out .kept .0),
     )
 
 set-shares-requires : tie.Need-set-shares-requires
@@ -35,8 +38,8 @@ set-shares-requires c κs = (c .before .before .before .before .before .pre .0, 
 set-shares-requires-2 : tie.Need-set-shares-requires-2
 set-shares-requires-2 c κs = (c .before .before .before .before .before .before .before .before .before .before .pre .0, (c .before .before .before .before .before .before .before .before .before .before .pre .1 .0 .1, c .before .before .before .before .before .before .before .before .before .before .pre .1 .1 .1))
 
-write-shares-requires : tie.Need-write-shares-requires
-write-shares-requires c κs =
+hand-out-requires : tie.Need-hand-out-requires
+hand-out-requires c κs =
     let counts = sound-counted (c .before .before .before .before .before .before .before .before .before .before .before .before .before .before .before .before .args .book .now) (settled (c .before .before .before .before .before .before .before .before .before .before .before .before .before .before .before .before) .fine) in
     let one = ap length (c .before .before .before .before .before .before .before .before .before .before .set-shares .ensures) ∙ list-length (elements (c .before .before .before .before .before .before .before .before .before .before .before .before .before .before .before .before .args .book .now)) _ in
     let two = ap length (c .before .before .before .before .before .set-shares2 .ensures) ∙ list-length (elements (c .before .before .before .before .before .before .before .before .before .before .before .before .before .before .before .before .args .book .now)) _ in
@@ -71,20 +74,19 @@ same-length-3 c = search needs
 
 returns : tie.Need-returns
 unfolding closeWith
-returns c =
-    (
-      ap (λ (ws : List ℕ). set ws (4 + 2 * (c .before .before .before .before .before .before .before .before .before .before .before .before .before .before .before .before .before .before .before .args .category - 1) + 1) 1)
-          (sides-written (c .before .before .before .before .before .before .before .before .before .before .before .before .before .before .before .before .before .before .before .args .book .now) (c .before .before .before .before .before .before .before .before .before .before .before .before .before .before .before .before .before .before .before .args .category) (elements (c .before .before .before .before .before .before .before .before .before .before .before .before .before .before .before .before .before .before .before .args .book .now)) (closingShare (c .before .before .before .before .before .before .before .before .before .before .before .before .before .before .before .before .before .before .before .args .book .now) (c .before .before .before .before .before .before .before .before .before .before .before .before .before .before .before .before .before .before .before .args .category)) _ _ _ (c .before .before .before .before .before .before .before .before .before .before .before .before .before .set-shares .ensures) (c .before .before .before .before .before .before .before .before .set-shares2 .ensures) (c .before .before .write-shares .ensures)),
-      (c .before .before .before .before .before .before .before .before .before .before .before .before .before .set-shares .ensures, c .before .before .before .before .before .before .before .before .set-shares2 .ensures),
-    )
+returns c = (
+  ap (λ (ws : List ℕ). set ws (4 + 2 * (c .before .before .before .before .before .before .before .before .before .before .before .before .before .before .before .before .before .before .before .args .category - 1) + 1) 1)
+      (sides-written (c .before .before .before .before .before .before .before .before .before .before .before .before .before .before .before .before .before .before .before .args .book .now) (c .before .before .before .before .before .before .before .before .before .before .before .before .before .before .before .before .before .before .before .args .category) (elements (c .before .before .before .before .before .before .before .before .before .before .before .before .before .before .before .before .before .before .before .args .book .now)) (closingShare (c .before .before .before .before .before .before .before .before .before .before .before .before .before .before .before .before .before .before .before .args .book .now) (c .before .before .before .before .before .before .before .before .before .before .before .before .before .before .before .before .before .before .before .args .category)) _ _ _ (c .before .before .before .before .before .before .before .before .before .before .before .before .before .set-shares .ensures) (c .before .before .before .before .before .before .before .before .set-shares2 .ensures) (c .before .before .hand-out .ensures)),
+  (c .before .before .before .before .before .before .before .before .before .before .before .before .before .set-shares .ensures, c .before .before .before .before .before .before .before .before .set-shares2 .ensures),
+)
 
-pub hand-sides-spec : {M : Type 1} → statement M
-hand-sides-spec =
+pub settle-sides-spec : {M : Type 1} → statement M
+settle-sides-spec =
     tie.close
     (tie.spec
     set-shares-requires
     set-shares-requires-2
-    write-shares-requires
+    hand-out-requires
     sub-place
     mul-book
     add-book

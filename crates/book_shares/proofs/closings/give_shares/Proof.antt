@@ -1,9 +1,11 @@
+-- `book_shares::closings::give_shares` meets its contract: the two words are written where the element is of the category.
+-- Assumes nothing.
 use native.Mathlib.Omega.{arith}
 use lib.ListN.{length-set}
 use borrow.Author.Needs.{needs}
 use borrow.Author.Tests.{eq-eqb, ne-eqb}
-use Rattle.book_shares.proofs.closings.write_share.Statement.{statement}
-use Rattle.book_shares.proofs.closings.write_share.Tie as tie
+use Rattle.book_shares.proofs.closings.give_shares.Statement.{statement}
+use Rattle.book_shares.proofs.closings.give_shares.Tie as tie
 
 mul-at : tie.Need-mul-at
 mul-at c = search needs
@@ -44,8 +46,8 @@ returns c = rw (eq-eqb _ _ (c .if1 .taken))
 returns-2 : tie.Need-returns-2
 returns-2 c = rw (ne-eqb _ _ (c .if1 .left))
 
-pub write-share-spec : {M : Type 1} → statement M
-write-share-spec =
+pub give-shares-spec : {M : Type 1} → statement M
+give-shares-spec =
     tie.close
     (tie.spec
     mul-at

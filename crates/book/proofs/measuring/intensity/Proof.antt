@@ -1,0 +1,23 @@
+-- `book::measuring::intensity` meets its contract: ground 1, and the call on a sound book. Assumes nothing.
+use mathlib.Core.Path.{sym, _∙_}
+use borrow.Author.Needs.{needs}
+use borrow.Author.Tests.{not-true, not-false}
+use Rattle.book_shares.specs.Intensities.{intensityReply, intensityRefusal}
+use Rattle.book.proofs.measuring.intensity.Statement.{statement}
+use Rattle.book.proofs.measuring.intensity.Tie as tie
+
+is-sound-requires : tie.Need-is-sound-requires
+is-sound-requires c κs = search needs
+
+returns : tie.Need-returns
+unfolding intensityReply intensityRefusal
+returns c = rw (sym (c .before .is-sound .ensures) ∙ not-true (c .before .is-sound .result) (c .if1 .taken))
+
+intensity-sound-requires : tie.Need-intensity-sound-requires
+intensity-sound-requires c κs = sym (c .before .is-sound .ensures) ∙ not-false (c .before .is-sound .result) (c .if1 .left)
+
+returns-2 : tie.Need-returns-2
+returns-2 c = search needs
+
+pub intensity-spec : {M : Type 1} → statement M
+intensity-spec = tie.close (tie.spec is-sound-requires returns intensity-sound-requires returns-2)
