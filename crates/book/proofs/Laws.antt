@@ -1,4 +1,4 @@
--- The laws of the calls, for the crates above. Of each call: what an accepted one changes, and that it keeps all else (`Fresh`, and
+-- The laws of the calls, for the crates above; those of close are of `book_shares`. Of each call: what an accepted one changes, and that it keeps all else (`Fresh`, and
 -- `CategoryAdded`, `EntryAdded`, `EntryStruck`, `ElementAdded` of `Views`); that a refused one leaves the list as it was; that
 -- either leaves a sound book sound. Assumes nothing.
 use mathlib.Core.Bool.{true, cond}
@@ -32,6 +32,7 @@ use Rattle.book_words.proofs.Wholes.{whole-sound, sound-whole}
 use Rattle.book_words.proofs.Writes.{filled-past}
 use Rattle.book.proofs.Accepting.{struck, opened, posted, unclosed-zero, Posted, enrolled, Enrolled, quoted, Quoted}
 use Rattle.book.proofs.Keeping.{open-keeps, post-keeps, strike-keeps, element-keeps}
+pub use Rattle.book_shares.proofs.Laws.{close-refused, close-closed, shares-handed, share-near-exact, close-sound}
 
 module _ (ws : List ℕ) where
   -- fresh

@@ -7,8 +7,9 @@ use native.Mathlib.Omega.{arith}
 use lib.Dec.{eqb}
 use borrow.Author.Tests.{not-false}
 use Rattle.apportion.specs.Grounds.{accepted}
-use Rattle.book_words.specs.Book.{unnumbered, entries, mostEntries, entryAt, categories, numberedEntry, numberedCategory, isClosed}
+use Rattle.book_words.specs.Book.{unnumbered, entries, mostEntries, entryAt, categories, isClosed}
 use Rattle.book_words.specs.Measures.{between, massActivity}
+use Rattle.book_words.specs.Parts.{numberedEntry, numberedCategory}
 use Rattle.book_words.specs.Soundness.{sound, entriesFine, entryFine}
 use Rattle.book_words.specs.Totals.{passesAmounts, capped, emitted, operation, provision, passesActivity}
 use Rattle.book_words.specs.declared.records.Category.{Category}

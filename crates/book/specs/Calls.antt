@@ -1,5 +1,6 @@
 -- "Calls" and their "Grounds, in checking order". Each call has one ordered list of its grounds; its reply and the book after
--- it go by the number of the first ground that holds. Assumes nothing.
+-- it go by the number of the first ground that holds. Close and intensity are `Closing` and `Intensities` of `book_shares`.
+-- Assumes nothing.
 use mathlib.Core.Bool.{not, _&&_, _||_, cond}
 use mathlib.Core.List.{List, _++_, _∷_, []}
 use Prim.Native.Nat.{ℕ, _+_, _*_}

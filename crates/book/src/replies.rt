@@ -1,6 +1,5 @@
 // What a call that returns a record's number answers.
 ghost use mathlib.Core.Path.{_≡_};
-ghost use Rattle.apportion.specs.Dividing.{refusal};
 
 pub struct Reply {
     // 0 where the call is accepted.

@@ -1,5 +1,5 @@
 -- The sums of a category in a sound book are within their limits. Assumes nothing.
-use mathlib.Core.Bool.{Bool, cond, true, false}
+use mathlib.Core.Bool.{Bool, cond, true, false, _&&_}
 use mathlib.Core.List.{List}
 use mathlib.Core.Path.{_≡_, refl}
 use Prim.Native.Nat.{ℕ, _≤_, _<_, _*_, _+_, zero, suc}
@@ -8,15 +8,14 @@ use native.Mathlib.Omega.{arith}
 use lib.Dec.{eqb, leb}
 use borrow.Author.Tests.{leb-true, lt-leb}
 use Rattle.apportion.specs.Dividing.{largest}
-use Rattle.apportion.specs.Places.{at}
 use Rattle.book_words.specs.Book.{elements, elementAt, entries, entryAt}
-use Rattle.book_words.specs.Measures.{massActivity, between, isFreight}
+use Rattle.book_words.specs.Measures.{massActivity, between, isFreight, byMass}
 use Rattle.book_words.specs.Soundness.{sound}
 use Rattle.book_words.specs.Totals.{Side, allUnstruck, unstruck, activities, mostActivity, unstruckOf}
 use Rattle.book_words.specs.declared.records.Element.{Element}
 use Rattle.book_words.specs.declared.records.Entry.{Entry}
 use Rattle.book_shares.specs.declared.weights.Codes.{Codes}
-use Rattle.book_shares.specs.Sums.{pool, pooled, activityAmong, among, freight, passengerMass, passengers}
+use Rattle.book_shares.specs.Sums.{pool, pooled, activityAmong, among, freight, passengersByMass, passengers, goesTo, sumAmong}
 use Rattle.apportion.proofs.Sums.{sum-le, sum-mul, sum-add, sum-cong}
 use Rattle.book_words.proofs.Booleans.{and-false, cond-most}
 use Rattle.book_words.proofs.Ranges.{between-low}
@@ -51,20 +50,15 @@ module _ (ws : List ℕ) (fine : sound ws ≡ true) where
         sum-le (elements ws)
         (λ p. among category codes (λ e. e .activity) (elementAt ws p))
         (λ p. 10 * massActivity (elementAt ws p))
-        (λ p h.
-        le-trans
-        (le-trans
-        (cond-most (eqb (elementAt ws p .category) category) _)
-        (cond-most (between (codes .first) (codes .last) (elementAt ws p .code)) _))
-        (tenfold (elementAt ws p) (at-place p h))) in
+        (λ p h. le-trans (cond-most (goesTo category codes (elementAt ws p)) _) (tenfold (elementAt ws p) (at-place p h))) in
         omega (arith, most, sum-mul (elements ws) 10 (λ p. massActivity (elementAt ws p)), whole .active)
 
     -- F + P is part of the activity of ground 10
-    pub served-limited : activityAmong ws category freight + passengerMass ws category ≤ mostActivity
-    unfolding activityAmong passengerMass activities massActivity
+    pub served-limited : activityAmong ws category freight + passengersByMass ws category ≤ mostActivity
+    unfolding activityAmong passengersByMass activities massActivity
     served-limited =
         let f : ℕ → ℕ = λ p. among category freight (λ e. e .activity) (elementAt ws p) in
-        let g : ℕ → ℕ = λ p. among category passengers (λ e. e .amount * 100 * e .distance) (elementAt ws p) in
+        let g : ℕ → ℕ = λ p. among category passengers byMass (elementAt ws p) in
         omega (
           arith,
           sum-add (elements ws) f g,
@@ -72,54 +66,58 @@ module _ (ws : List ℕ) (fine : sound ws ≡ true) where
           whole .active,
         )
       where
-        one : (e : Element) → among category freight (λ x. x .activity) e + among category passengers (λ x. x .amount * 100 * x .distance) e ≤ massActivity e
+        one : (e : Element) → among category freight (λ x. x .activity) e + among category passengers byMass e ≤ massActivity e
         one e = go (eqb (e .category) category) (isFreight (e .code)) refl
           where
             go : (t f : Bool) → isFreight (e .code) ≡ f
-                → cond t (cond (between 0 2 (e .code)) (e .activity) 0) 0 + cond t (cond (between 100 1000 (e .code)) (e .amount * 100 * e .distance) 0) 0
-                ≤ cond f (e .activity) (e .amount * 100 * e .distance)
+                → cond (t && between 0 2 (e .code)) (e .activity) 0 + cond (t && between 100 1000 (e .code)) (byMass e) 0 ≤ cond f (e .activity) (byMass e)
             go false f p = omega arith
             go true true p =
                 let low = leb-true (e .code) 2 p in
                 rw (lt-leb 100 (e .code) (omega arith)) (omega (arith, cond-most (between 0 2 (e .code)) (e .activity)))
             go true false p =
                 let none : between 0 2 (e .code) ≡ false = and-false (leb 0 (e .code)) (leb (e .code) 2) p in
-                rw none (omega (arith, cond-most (between 100 1000 (e .code)) (e .amount * 100 * e .distance)))
+                rw none (omega (arith, cond-most (between 100 1000 (e .code)) (byMass e)))
 
-    -- C is at least P, and at most ten times P
-    pub mass-least : passengerMass ws category ≤ activityAmong ws category passengers
-    unfolding activityAmong passengerMass
-    mass-least =
-        sum-le (elements ws)
-        (λ p. among category passengers (λ e. e .amount * 100 * e .distance) (elementAt ws p))
-        (λ p. among category passengers (λ e. e .activity) (elementAt ws p))
+    -- a sum over elements with these codes that each measure no more by one measure than by another
+    among-le : (codes : Codes) (f g : Element → ℕ) → ((e : Element) → Measured e → between (codes .first) (codes .last) (e .code) ≡ true → f e ≤ g e)
+        → sumAmong ws category codes f ≤ sumAmong ws category codes g
+    among-le codes f g less =
+        sum-le (elements ws) (λ p. among category codes f (elementAt ws p)) (λ p. among category codes g (elementAt ws p))
         (λ p h. one (elementAt ws p) (at-place p h))
       where
-        one : (e : Element) → Measured e → among category passengers (λ x. x .amount * 100 * x .distance) e ≤ among category passengers (λ x. x .activity) e
-        one e m = go (eqb (e .category) category) (between 100 1000 (e .code)) refl
+        one : (e : Element) → Measured e → among category codes f e ≤ among category codes g e
+        one e m = go (eqb (e .category) category) (between (codes .first) (codes .last) (e .code)) refl
           where
-            go : (t b : Bool) → between 100 1000 (e .code) ≡ b → cond t (cond b (e .amount * 100 * e .distance) 0) 0 ≤ cond t (cond b (e .activity) 0) 0
+            go : (t b : Bool) → between (codes .first) (codes .last) (e .code) ≡ b → cond (t && b) (f e) 0 ≤ cond (t && b) (g e) 0
             go false b p = omega arith
             go true false p = omega arith
-            go true true p = at-least-mass e m (lt-leb (e .code) 2 (omega (arith, between-low 100 1000 (e .code) p)))
+            go true true p = less e m p
 
-    pub mass-tenth : activityAmong ws category passengers ≤ 10 * passengerMass ws category
-    unfolding activityAmong passengerMass massActivity
+    -- a code from 100 to 1000 is none of freight
+    above : (e : Element) → between 100 1000 (e .code) ≡ true → isFreight (e .code) ≡ false
+    above e h = lt-leb (e .code) 2 (omega (arith, between-low 100 1000 (e .code) h))
+
+    -- C is at least P, and at most ten times P
+    pub mass-least : passengersByMass ws category ≤ activityAmong ws category passengers
+    unfolding activityAmong passengersByMass
+    mass-least = among-le passengers byMass (λ e. e .activity) (λ e m h. at-least-mass e m (above e h))
+
+    pub mass-tenth : activityAmong ws category passengers ≤ 10 * passengersByMass ws category
+    unfolding activityAmong passengersByMass massActivity
     mass-tenth =
-        let g : ℕ → ℕ = λ p. among category passengers (λ e. e .amount * 100 * e .distance) (elementAt ws p) in
+        let g : ℕ → ℕ = λ p. among category passengers byMass (elementAt ws p) in
         omega (
           arith,
+          among-le passengers (λ e. e .activity) (λ e. 10 * byMass e) (λ e m h. rw (above e h) at (tenfold e m)),
+          sum-cong (elements ws) (λ p. among category passengers (λ e. 10 * byMass e) (elementAt ws p)) (λ p. 10 * g p)
+              (λ p h. times (goesTo category passengers (elementAt ws p)) (byMass (elementAt ws p))),
           sum-mul (elements ws) 10 g,
-          sum-le (elements ws) (λ p. among category passengers (λ e. e .activity) (elementAt ws p)) (λ p. 10 * g p) (λ p h. one (elementAt ws p) (at-place p h)),
         )
       where
-        one : (e : Element) → Measured e → among category passengers (λ x. x .activity) e ≤ 10 * among category passengers (λ x. x .amount * 100 * x .distance) e
-        one e m = go (eqb (e .category) category) (between 100 1000 (e .code)) refl
-          where
-            go : (t b : Bool) → between 100 1000 (e .code) ≡ b → cond t (cond b (e .activity) 0) 0 ≤ 10 * cond t (cond b (e .amount * 100 * e .distance) 0) 0
-            go false b p = omega arith
-            go true false p = omega arith
-            go true true p = rw (lt-leb (e .code) 2 (omega (arith, between-low 100 1000 (e .code) p))) at (tenfold e m)
+        times : (t : Bool) (n : ℕ) → cond t (10 * n) 0 ≡ 10 * cond t n 0
+        times true n = refl
+        times false n = refl
 
     -- A, B1 and B2 are the category's unstruck entries
     pub pools-add : (side : Side) → pool ws category 0 side + pool ws category 1 side + pool ws category 2 side ≡ unstruckOf ws category side

@@ -11,15 +11,13 @@ use lib.Dec.{eqb}
 use lib.ListN.{length, length-set}
 use lib.Seq.{getD-set-other, getD-set-same}
 use borrow.Author.Tests.{eqb-true, eq-eqb}
-use Rattle.apportion.specs.Dividing.{before}
 use Rattle.apportion.specs.Places.{at}
 use Rattle.book_words.specs.Book.{bookLength, categories, entries, elements, mostCategories, mostEntries, categoryAt, entryAt, elementAt, puts}
 use Rattle.book_words.specs.Parts.{CountsWithin}
 use Rattle.book_words.specs.Totals.{Side, operation, provision}
 use Rattle.book_words.specs.declared.records.Category.{Category}
 use Rattle.book_words.specs.declared.records.Element.{Element}
-use Rattle.book_shares.specs.Closing.{handOut, closeWith}
-use Rattle.book_shares.specs.Dealing.{giveShares}
+use Rattle.book_shares.specs.Closing.{handOut, closeWith, giveShares}
 use Rattle.book_words.proofs.Views.{category-same, entry-same, element-same}
 use Rattle.book_words.proofs.Writes.{Avoids, puts-length, puts-other, puts-here}
 
@@ -74,7 +72,7 @@ module _ (ws : List ℕ) (category : ℕ) where
     pub put-length : (n : ℕ) → length (handOut n ws category share) ≡ length ws
     put-length zero = refl
     put-length (suc n) =
-        chosen-length (eqb (elementAt ws n .category) category) (handOut n ws category share)
+        chosen-length (eqb (elementAt (handOut n ws category share) n .category) category) (handOut n ws category share)
         ((356 + 8 * n + 6, share operation n) ∷ (356 + 8 * n + 7, share provision n) ∷ [])
         ∙ put-length n
 
@@ -82,15 +80,18 @@ module _ (ws : List ℕ) (category : ℕ) where
     pub put-word : (n k : ℕ) → NoShare n k → at (handOut n ws category share) k ≡ at ws k
     put-word zero k none = refl
     put-word (suc n) k none =
-        chosen-other (eqb (elementAt ws n .category) category) (handOut n ws category share)
+        chosen-other (eqb (elementAt (handOut n ws category share) n .category) category) (handOut n ws category share)
         ((356 + 8 * n + 6, share operation n) ∷ (356 + 8 * n + 7, share provision n) ∷ [])
         k
-        (λ e. let here = none n (omega arith) (eqb-true (elementAt ws n .category) category e) in (here .0, (here .1, refl)))
+        (λ e.
+        let same = put-word n (356 + 8 * n) (λ q h z. omega arith) in
+        let here = none n (omega arith) (sym same ∙ eqb-true (elementAt (handOut n ws category share) n .category) category e) in
+        (here .0, (here .1, refl)))
         ∙ put-word n k (λ q h. none q (omega arith))
 
-    -- one place more, as the code counts: the writes so far leave the next element's category as it was
+    -- one place more, as the code counts
     pub put-next : (n : ℕ) → giveShares (handOut n ws category share) category n (share operation n) (share provision n) ≡ handOut (n + 1) ws category share
-    put-next n = rw (add-one, put-word n (356 + 8 * n) (λ q h e. omega arith))
+    put-next n = rw add-one
 
     -- the share words hold the shares
     shares-here : (n q : ℕ) → q < n → elementAt ws q .category ≡ category → 356 + 8 * q + 7 < length ws
@@ -98,14 +99,14 @@ module _ (ws : List ℕ) (category : ℕ) where
     shares-here zero q h e inside = let z : ⊥ = omega arith in absurd z
     shares-here (suc n) q h e inside =
         let before = handOut n ws category share in
-        let test = eqb (elementAt ws n .category) category in
+        let test = eqb (elementAt before n .category) category in
         let a : ℕ × ℕ = (356 + 8 * n + 6, share operation n) in
         let b : ℕ × ℕ = (356 + 8 * n + 7, share provision n) in
         ⊎-elim
         (λ (s : suc q ≡ suc n).
         let here : q ≡ n = omega arith in
         let room : 356 + 8 * n + 7 < length before = omega (arith, put-length n) in
-        let is : test ≡ true = eq-eqb (elementAt ws n .category) category (ap (λ (m : ℕ). elementAt ws m .category) (sym here) ∙ e) in
+        let is : test ≡ true = eq-eqb (elementAt before n .category) category (put-word n (356 + 8 * n) (λ j i z. omega arith) ∙ ap (λ (m : ℕ). elementAt ws m .category) (sym here) ∙ e) in
         rw (here, is) (puts-here before [] a (b ∷ []) (omega arith) (omega arith), puts-here before (a ∷ []) b [] (omega arith) refl))
         (λ (l : suc q < suc n).
         let earlier = shares-here n q (omega arith) e inside in (

@@ -11,22 +11,21 @@ use borrow.Author.Tests.{eq-eqb, le-ltb, ne-eqb}
 use Rattle.apportion.specs.Dividing.{divided, largest, Divisible, sharesAfter, refusal}
 use Rattle.apportion.specs.Places.{at, sumOf, listBelow}
 use Rattle.book_words.specs.Book.{elements}
-use Rattle.book_words.specs.Parts.{CountsWithin}
 use Rattle.book_words.specs.Soundness.{sound}
 use Rattle.book_words.specs.Totals.{Side, operation, provision}
 use Rattle.book_shares.specs.declared.sharing.Parts.{Parts}
 use Rattle.book_shares.specs.declared.weights.Codes.{Codes}
 use Rattle.book_shares.specs.Closing.{handOut}
-use Rattle.book_shares.specs.Dealing.{Dealable, Served, besides}
+use Rattle.book_shares.specs.Dealing.{Dealable, ToDivideBy, listsBySide}
 use Rattle.book_shares.specs.Shares.{weights, partAt, dividedAll, freightPart, passengerPart, closingShare}
-use Rattle.book_shares.specs.Sums.{activityAmong, pool, freight, passengerMass, passengers, ofGroup}
+use Rattle.book_shares.specs.Sums.{activityAmong, pool, freight, passengersByMass, passengers, ofGroup}
 use Rattle.apportion.proofs.Grounds.{accepted-new}
 use Rattle.apportion.proofs.Laws.{shares-sum}
 use Rattle.apportion.proofs.Lists.{list-at, list-past, list-cong, list-length}
 use Rattle.apportion.proofs.Sums.{sum-some, below-or-not}
 use Rattle.book_words.proofs.Booleans.{and-false}
 use Rattle.book_words.proofs.Facts.{sound-counted}
-use Rattle.book_shares.proofs.Bounds.{pool-limited, served-limited}
+use Rattle.book_shares.proofs.Bounds.{pool-limited, served-limited, activity-limited}
 use Rattle.book_shares.proofs.Closed.{put-cong}
 use Rattle.book_shares.proofs.Shared.{weights-length, weights-sum, sum-two}
 
@@ -55,16 +54,16 @@ module _ (ws : List ℕ) (category : ℕ) (codes : Codes) (amount : ℕ) (d : De
   part-within k = dealt-within k
 
   -- such a division is accepted
-  pub deal-accepted : CountsWithin ws → refusal amount (length (weights ws category codes)) (elements ws) (sumOf (weights ws category codes)) ≡ 0
+  pub deal-accepted : sound ws ≡ true → refusal amount (length (weights ws category codes)) (elements ws) (sumOf (weights ws category codes)) ≡ 0
   unfolding refusal
-  deal-accepted counts =
+  deal-accepted fine =
       rw (weights-length ws category codes, weights-sum ws category codes)
       (rw (
         eq-eqb (elements ws) (elements ws) refl,
-        le-ltb 256 (elements ws) (counts .elements-most),
+        le-ltb 256 (elements ws) (sound-counted ws fine .elements-most),
         some (d .divisible),
         le-ltb largest amount (d .within),
-        le-ltb largest (activityAmong ws category codes) (d .total-within),
+        le-ltb largest (activityAmong ws category codes) (activity-limited ws fine category codes),
       ))
     where
       some : Divisible amount (weights ws category codes) → ltb 0 amount && eqb (activityAmong ws category codes) 0 ≡ false
@@ -113,8 +112,8 @@ unfolding sharesAfter
 division-done pool weights old e = accepted-new (refusal pool (length weights) (length old) (sumOf weights)) (divided pool weights) old e
 
 -- A divided by F and P, as the code does it
-pub all-divided : (ws : List ℕ) (category : ℕ) (side : Side) → sound ws ≡ true → Served ws category → (a f p : ℕ) (old new : List ℕ) → length old ≡ 2
-    → a ≡ pool ws category 0 side → f ≡ activityAmong ws category freight → p ≡ passengerMass ws category
+pub all-divided : (ws : List ℕ) (category : ℕ) (side : Side) → sound ws ≡ true → ToDivideBy ws category → (a f p : ℕ) (old new : List ℕ) → length old ≡ 2
+    → a ≡ pool ws category 0 side → f ≡ activityAmong ws category freight → p ≡ passengersByMass ws category
     → new ≡ sharesAfter a (f ∷ p ∷ []) old
     → new ≡ dividedAll ws category side
 unfolding dividedAll refusal
@@ -139,18 +138,18 @@ pub amount-divided : (ws : List ℕ) (category : ℕ) (codes : Codes) (amount : 
 amount-divided ws category codes amount fine d given old new are long is =
     is
     ∙ ap (λ (l : List ℕ). sharesAfter amount l old) are
-    ∙ division-done amount (weights ws category codes) old (rw long (deal-accepted ws category codes amount d (sound-counted ws fine)))
+    ∙ division-done amount (weights ws category codes) old (rw long (deal-accepted ws category codes amount d fine))
 
 -- the shares of both sides, as the code writes them
 pub sides-written : (ws : List ℕ) (category n : ℕ) (share : Side → ℕ → ℕ) (a b new : List ℕ) → a ≡ listBelow n (share operation) → b ≡ listBelow n (share provision)
-    → new ≡ handOut (length a) ws category (besides a b)
+    → new ≡ handOut (length a) ws category (listsBySide a b)
     → new ≡ handOut n ws category share
 sides-written ws category n share a b new is-a is-b is =
     is
-    ∙ ap (λ (m : ℕ). handOut m ws category (besides a b)) (ap length is-a ∙ list-length n (share operation))
-    ∙ put-cong ws category n (besides a b) share same
+    ∙ ap (λ (m : ℕ). handOut m ws category (listsBySide a b)) (ap length is-a ∙ list-length n (share operation))
+    ∙ put-cong ws category n (listsBySide a b) share same
   where
-    same : (s : Side) (k : ℕ) → k < n → besides a b s k ≡ share s k
+    same : (s : Side) (k : ℕ) → k < n → listsBySide a b s k ≡ share s k
     same operation k h = ap (λ (l : List ℕ). at l k) is-a ∙ list-at n (share operation) k h
     same provision k h = ap (λ (l : List ℕ). at l k) is-b ∙ list-at n (share provision) k h
 

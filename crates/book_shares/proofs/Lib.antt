@@ -1,7 +1,7 @@
 -- What the proofs over closings and intensities share, and the laws of closings.
 pub mod Members
 pub mod Bounds
-pub mod Among
+pub mod Pooled
 pub mod Quotients
 pub mod Results
 pub mod Nearness

@@ -10,7 +10,7 @@ use lib.Dec.{eqb, leb}
 use borrow.Author.Tests.{not-true, eqb-true, leb-true}
 use Rattle.apportion.specs.Dividing.{largest}
 use Rattle.book_words.specs.Book.{categoryOf}
-use Rattle.book_words.specs.Measures.{isCode, unsuited, isChain, isAmount, isDistance, activityOf, isFreight, between, isPassenger, isHub, massActivity, isGroup, unsuitedGroup}
+use Rattle.book_words.specs.Measures.{isCode, unsuited, isChain, isAmount, isDistance, activityOf, isFreight, between, isPassenger, isHub, massActivity, isGroup, unsuitedGroup, byMass}
 use Rattle.book_words.specs.Soundness.{measured, elementSuits, sharesWait, quotedSuits, elementFine, entryFine, entrySuits}
 use Rattle.book_words.specs.declared.records.Category.{Category}
 use Rattle.book_words.specs.declared.records.Element.{Element}
@@ -132,14 +132,14 @@ module _ (r : Element) (m : Measured r) where
   unfolding massActivity
   tenfold = go (isFreight (r .code)) refl
     where
-      go : (t : Bool) → isFreight (r .code) ≡ t → r .activity ≤ 10 * cond t (r .activity) (r .amount * 100 * r .distance)
+      go : (t : Bool) → isFreight (r .code) ≡ t → r .activity ≤ 10 * cond t (r .activity) (byMass r)
       go true e = omega arith
       go false e =
           let most = mul-le-mul-left (r .amount * r .distance) (between-high 100 1000 (r .code) (class e)) in
           omega (arith, class-weighed e, most)
 
   -- passengers have at least their activity of ground 10
-  pub at-least-mass : isFreight (r .code) ≡ false → r .amount * 100 * r .distance ≤ r .activity
+  pub at-least-mass : isFreight (r .code) ≡ false → byMass r ≤ r .activity
   at-least-mass e =
       let least = mul-le-mul-left (r .amount * r .distance) (between-low 100 1000 (r .code) (class e)) in
       omega (arith, class-weighed e, least)

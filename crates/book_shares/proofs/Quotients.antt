@@ -1,11 +1,10 @@
--- A quotient that is made ten by ten, as by hand. Assumes nothing.
+-- A quotient that is made ten by ten. Assumes nothing.
 use mathlib.Core.Logic.{⊎-elim}
 use mathlib.Core.Path.{_≡_, _∙_, ap, refl}
 use Prim.Native.Nat.{ℕ, _<_, _*_, _+_, _/_, _%_, _≤_, _-_, _^_, zero, suc}
 use native.Mathlib.Nat.{mul-add-div-right, div-eq-of-lt, add-zero, div-add-mod', mod-lt, pow-suc}
 use native.Mathlib.Numerals.{sub-one}
 use native.Mathlib.Omega.{arith}
-use Rattle.apportion.specs.Places.{at}
 use Rattle.book_words.specs.Measures.{nearest}
 use Rattle.book_words.specs.Totals.{capped}
 use Rattle.apportion.proofs.Sums.{below-or-not}

@@ -4,49 +4,45 @@ use mathlib.Core.List.{List}
 use mathlib.Core.Logic.{⊎-elim}
 use mathlib.Core.Path.{_≡_, _∙_, refl, ap}
 use Prim.Native.Nat.{ℕ, _<_, _*_, _^_, _+_, _≤_, zero, suc}
-use native.Mathlib.Nat.{eq-zero-or-pos, add-zero}
+use native.Mathlib.Nat.{add-zero}
 use native.Mathlib.Omega.{arith}
 use lib.Dec.{eqb, ltb}
-use borrow.Author.Tests.{eqb-false, eq-eqb, ne-eqb, not-false, ltb-false}
+use borrow.Author.Tests.{eq-eqb, ne-eqb, not-false, ltb-false}
 use Rattle.apportion.specs.Grounds.{accepted}
-use Rattle.apportion.specs.Places.{at}
 use Rattle.book_words.specs.Book.{categoryOf, categories, unnumbered, isClosed}
 use Rattle.book_words.specs.Measures.{nearest, between, isHub}
 use Rattle.book_words.specs.Soundness.{sound}
 use Rattle.book_words.specs.Totals.{Side, capped, operation, provision}
 use Rattle.book_shares.specs.declared.intensities.Intensity.{Intensity}
-use Rattle.book_shares.specs.Dealing.{Served, scaleTens}
-use Rattle.book_shares.specs.Intensities.{idle, intensityOf, scale, mostResult, intensityRefusal, isIntensityCode, passesIntensity, intensityReply}
+use Rattle.book_shares.specs.Dealing.{ToDivideBy, scaleTens}
+use Rattle.book_shares.specs.Intensities.{lacksActivity, intensityOf, scale, mostResult, intensityRefusal, isIntensityCode, passesIntensity, intensityReply}
 use Rattle.book_shares.specs.Shares.{passengerPart, freightPart}
 use Rattle.book_shares.specs.Sums.{activityAmong, freight, ofGroup, passengers, pool}
 use Rattle.apportion.proofs.Grounds.{or-none, first-none}
 use Rattle.book_words.proofs.Capping.{capped-both, capped-small, capped-over}
 use Rattle.book_words.proofs.Kept.{same-or-not}
+use Rattle.book_words.proofs.Ranges.{above-zero}
 use Rattle.book_shares.proofs.Bounds.{mass-tenth}
-use Rattle.book_shares.proofs.Closable.{nine}
 
 module _ (ws : List ℕ) (category code : ℕ) where
   -- where ground 9 does not hold, there is an activity to divide by
-  some : (n : ℕ) → eqb n 0 ≡ false → 0 < n
-  some n e = ⊎-elim (λ (none : n ≡ 0). absurd (eqb-false n 0 e none)) (λ (l : 0 < n). l) (eq-zero-or-pos n)
+  pub some-passengers : lacksActivity ws category code ≡ false → code ≡ 100 → 0 < activityAmong ws category passengers
+  some-passengers h is = above-zero (activityAmong ws category passengers) (rw (eq-eqb code 100 is) at h)
 
-  pub some-passengers : idle ws category code ≡ false → code ≡ 100 → 0 < activityAmong ws category passengers
-  some-passengers h is = some (activityAmong ws category passengers) (rw (eq-eqb code 100 is) at h)
-
-  freight-parts : idle ws category code ≡ false → (code ≡ 100 → ⊥)
+  freight-parts : lacksActivity ws category code ≡ false → (code ≡ 100 → ⊥)
       → (eqb (activityAmong ws category freight) 0 ≡ false) × (not (eqb code 0) && eqb (activityAmong ws category (ofGroup code)) 0 ≡ false)
   freight-parts h other =
       or-none (eqb (activityAmong ws category freight) 0) (not (eqb code 0) && eqb (activityAmong ws category (ofGroup code)) 0)
       (rw (ne-eqb code 100 other) at h)
 
-  pub some-freight : idle ws category code ≡ false → (code ≡ 100 → ⊥) → 0 < activityAmong ws category freight
-  some-freight h other = some (activityAmong ws category freight) (freight-parts h other .0)
+  pub some-freight : lacksActivity ws category code ≡ false → (code ≡ 100 → ⊥) → 0 < activityAmong ws category freight
+  some-freight h other = above-zero (activityAmong ws category freight) (freight-parts h other .0)
 
-  pub some-group : idle ws category code ≡ false → (code ≡ 100 → ⊥) → (code ≡ 0 → ⊥) → 0 < activityAmong ws category (ofGroup code)
-  some-group h other grouped = some (activityAmong ws category (ofGroup code)) (rw (ne-eqb code 0 grouped) at (freight-parts h other .1))
+  pub some-group : lacksActivity ws category code ≡ false → (code ≡ 100 → ⊥) → (code ≡ 0 → ⊥) → 0 < activityAmong ws category (ofGroup code)
+  some-group h other grouped = above-zero (activityAmong ws category (ofGroup code)) (rw (ne-eqb code 0 grouped) at (freight-parts h other .1))
 
-  pub idle-served : sound ws ≡ true → idle ws category code ≡ false → Served ws category
-  idle-served fine h =
+  pub activity-to-divide-by : sound ws ≡ true → lacksActivity ws category code ≡ false → ToDivideBy ws category
+  activity-to-divide-by fine h =
       ⊎-elim
       (λ (is : code ≡ 100). omega (arith, some-passengers h is, mass-tenth ws fine category))
       (λ (other : code ≡ 100 → ⊥). omega (arith, some-freight h other))
@@ -87,7 +83,7 @@ module _ (ws : List ℕ) (category code : ℕ) where
   pub record Accepted : Type 0 where
     pub fine : sound ws ≡ true
     pub numbered : between 1 (categories ws) category ≡ true
-    pub busy : idle ws category code ≡ false
+    pub some-activity : lacksActivity ws category code ≡ false
     pub within : (side : Side) → intensityOf ws category code side ≤ mostResult
 
   pub intensity-accepted : intensityRefusal ws category code ≡ 0 → Accepted
@@ -97,13 +93,13 @@ module _ (ws : List ℕ) (category code : ℕ) where
       let two = first-none 1 (unnumbered (categories ws) category) _ (one .1) in
       let three = first-none 2 (not (isIntensityCode code)) _ (two .1) in
       let five = first-none 4 (not (isClosed ws category)) _ (three .1) in
-      let nine = first-none 8 (idle ws category code) _ (five .1) in
+      let nine = first-none 8 (lacksActivity ws category code) _ (five .1) in
       let ten = first-none 9 (passesIntensity ws category code) _ (nine .1) in
       let past = or-none (ltb mostResult (intensityOf ws category code operation)) (ltb mostResult (intensityOf ws category code provision)) (ten .0) in
       record {
         fine = not-false (sound ws) (one .0);
         numbered = not-false (between 1 (categories ws) category) (two .0);
-        busy = nine .0;
+        some-activity = nine .0;
         within = most past;
       }
     where

@@ -1,5 +1,5 @@
 -- The laws of the shares that a closing deals out. Assumes nothing.
-use mathlib.Core.Bool.{Bool, _&&_, true, false, cond}
+use mathlib.Core.Bool.{Bool, true, false}
 use mathlib.Core.List.{List, _∷_, []}
 use mathlib.Core.Logic.{_⊎_, inl, inr, ⊎-elim}
 use mathlib.Core.Path.{_≡_, refl, sym, ap, _∙_}
@@ -16,14 +16,14 @@ use Rattle.book_words.specs.Book.{elements, elementAt}
 use Rattle.book_words.specs.Measures.{between, isCode}
 use Rattle.book_words.specs.Totals.{Side}
 use Rattle.book_shares.specs.declared.weights.Codes.{Codes}
-use Rattle.book_shares.specs.Dealing.{Served}
+use Rattle.book_shares.specs.Dealing.{ToDivideBy}
 use Rattle.book_shares.specs.Shares.{dividedAll, freightPart, passengerPart, weights, partAt, closingShare, exactShare, exactIn, over, plus}
-use Rattle.book_shares.specs.Sums.{pool, freight, passengers, ofGroup, among, activityAmong, passengerMass}
+use Rattle.book_shares.specs.Sums.{pool, freight, passengers, ofGroup, among, activityAmong, passengersByMass, goesTo}
 use Rattle.apportion.proofs.Laws.{shares-length, shares-sum, share-of-zero, share-near}
 use Rattle.apportion.proofs.Lists.{list-length, list-at, list-past, list-sum}
 use Rattle.apportion.proofs.Omitting.{divided-kept}
 use Rattle.apportion.proofs.Sums.{below-or-not, sum-add, sum-some}
-use Rattle.book_words.proofs.Booleans.{and-both, and-false, cond-both}
+use Rattle.book_words.proofs.Booleans.{and-both, and-false}
 use Rattle.book_words.proofs.Ranges.{between-outside, between-inside}
 use Rattle.book_shares.proofs.Nearness.{near-chain, near-cancel, near-plus, near-weaken}
 
@@ -49,19 +49,19 @@ module _ (A F P C : ℕ) (B S : ℕ → ℕ) (code activity : ℕ) where
 
 -- the elements that a pool goes to, and what each gets of it
 module _ (ws : List ℕ) (category : ℕ) (codes : Codes) where
-  -- the pool goes to the element at this place: it is of the category and has one of the codes
-  abbrev pub goesTo : ℕ → Bool
-  goesTo p = eqb (elementAt ws p .category) category && between (codes .first) (codes .last) (elementAt ws p .code)
+  -- the pool goes to the element at this place
+  abbrev pub takesPart : ℕ → Bool
+  takesPart p = goesTo category codes (elementAt ws p)
 
-  pub goes-here : (p : ℕ) → elementAt ws p .category ≡ category → between (codes .first) (codes .last) (elementAt ws p .code) ≡ true → goesTo p ≡ true
+  pub goes-here : (p : ℕ) → elementAt ws p .category ≡ category → between (codes .first) (codes .last) (elementAt ws p .code) ≡ true → takesPart p ≡ true
   goes-here p same e =
       and-both (eqb (elementAt ws p .category) category) (between (codes .first) (codes .last) (elementAt ws p .code))
       (eq-eqb (elementAt ws p .category) category same) e
 
-  pub goes-elsewhere : (p : ℕ) → (elementAt ws p .category ≡ category → ⊥) → goesTo p ≡ false
+  pub goes-elsewhere : (p : ℕ) → (elementAt ws p .category ≡ category → ⊥) → takesPart p ≡ false
   goes-elsewhere p other = rw (ne-eqb (elementAt ws p .category) category other)
 
-  pub goes-outside : (p : ℕ) → (elementAt ws p .code < codes .first) ⊎ (codes .last < elementAt ws p .code) → goesTo p ≡ false
+  pub goes-outside : (p : ℕ) → (elementAt ws p .code < codes .first) ⊎ (codes .last < elementAt ws p .code) → takesPart p ≡ false
   goes-outside p other =
       and-false (eqb (elementAt ws p .category) category) (between (codes .first) (codes .last) (elementAt ws p .code))
       (between-outside (codes .first) (codes .last) (elementAt ws p .code) other)
@@ -83,29 +83,24 @@ module _ (ws : List ℕ) (category : ℕ) (codes : Codes) where
   unfolding weights
   weight-at p h = list-at (elements ws) weight p h
 
-  weight-goes : (p : ℕ) → weight p ≡ cond (goesTo p) (elementAt ws p .activity) 0
-  weight-goes p =
-      cond-both (eqb (elementAt ws p .category) category) (between (codes .first) (codes .last) (elementAt ws p .code))
-      (elementAt ws p .activity)
-
   -- an element that the pool does not go to has weight 0, and so has a place past the elements
-  pub weight-none : (p : ℕ) → goesTo p ≡ false → at (weights ws category codes) p ≡ 0
+  pub weight-none : (p : ℕ) → takesPart p ≡ false → at (weights ws category codes) p ≡ 0
   unfolding weights
   weight-none p e =
       ⊎-elim
-      (λ (here : p < elements ws). weight-at p here ∙ weight-goes p ∙ (rw e))
+      (λ (here : p < elements ws). weight-at p here ∙ (rw e))
       (λ (past : elements ws ≤ p). list-past (elements ws) weight p past)
       (below-or-not p (elements ws))
 
   -- and it gets nothing
-  pub part-none : (amount : ℕ) → Divisible amount (weights ws category codes) → (p : ℕ) → goesTo p ≡ false → partAt ws category codes amount p ≡ 0
+  pub part-none : (amount : ℕ) → Divisible amount (weights ws category codes) → (p : ℕ) → takesPart p ≡ false → partAt ws category codes amount p ≡ 0
   unfolding partAt
   part-none amount divisible p e = share-of-zero amount (weights ws category codes) divisible p (weight-none p e)
 
   -- the elements that a pool goes to get what they would get alone
   pub alone : (amount : ℕ) → Divisible amount (weights ws category codes)
-      → kept goesTo (divided amount (weights ws category codes)) ≡ divided amount (kept goesTo (weights ws category codes))
-  alone amount divisible = sym (divided-kept amount (weights ws category codes) goesTo (λ p h e. weight-none p e) divisible)
+      → kept takesPart (divided amount (weights ws category codes)) ≡ divided amount (kept takesPart (weights ws category codes))
+  alone amount divisible = sym (divided-kept amount (weights ws category codes) takesPart (λ p h e. weight-none p e) divisible)
 
   -- all parts together are the pool
   pub parts-sum : (amount : ℕ) → Divisible amount (weights ws category codes) → sumBelow (elements ws) (partAt ws category codes amount) ≡ amount
@@ -114,22 +109,22 @@ module _ (ws : List ℕ) (category : ℕ) (codes : Codes) where
       rw (shares-length amount (weights ws category codes), weights-length) at (shares-sum amount (weights ws category codes) divisible)
 
   -- the activity of an element that the pool goes to is one of those that it is divided by
-  pub activity-within : (p : ℕ) → p < elements ws → goesTo p ≡ true → elementAt ws p .activity ≤ activityAmong ws category codes
+  pub activity-within : (p : ℕ) → p < elements ws → takesPart p ≡ true → elementAt ws p .activity ≤ activityAmong ws category codes
   unfolding activityAmong
-  activity-within p h e = rw (weight-goes p, e) at (sum-some (elements ws) weight p h)
+  activity-within p h e = rw e at (sum-some (elements ws) weight p h)
 
   -- and its part is near to its exact part of the pool
-  pub part-near : (amount p : ℕ) → p < elements ws → goesTo p ≡ true → 0 < elementAt ws p .activity
+  pub part-near : (amount p : ℕ) → p < elements ws → takesPart p ≡ true → 0 < elementAt ws p .activity
       → Within 1 (partAt ws category codes amount p) (amount * elementAt ws p .activity) (activityAmong ws category codes)
   unfolding partAt
   part-near amount p h e some =
-      rw (weights-sum, weight-at p h, weight-goes p, e)
+      rw (weights-sum, weight-at p h, e)
       at (share-near amount (weights ws category codes) (rw weights-sum (omega (arith, activity-within p h e))) p)
 
 module _ (ws : List ℕ) (category : ℕ) (side : Side) where
   -- what the four divisions of a closing need
   pub record Handed : Type 0 where
-    pub served : Served ws category
+    pub served : ToDivideBy ws category
     pub freight-divisible : Divisible (freightPart ws category side) (weights ws category freight)
     pub passengers-divisible : Divisible (passengerPart ws category side) (weights ws category passengers)
     pub chilled-divisible : Divisible (pool ws category 1 side) (weights ws category (ofGroup 1))
@@ -137,21 +132,21 @@ module _ (ws : List ℕ) (category : ℕ) (side : Side) where
 
   -- the two weights of A
   abbrev both-weights : List ℕ
-  both-weights = activityAmong ws category freight ∷ passengerMass ws category ∷ []
+  both-weights = activityAmong ws category freight ∷ passengersByMass ws category ∷ []
 
-  both-some : Served ws category → 0 < sumOf both-weights
+  both-some : ToDivideBy ws category → 0 < sumOf both-weights
   both-some served = rw (sum-two both-weights refl) served
 
   -- A is divided whole
-  pub parts-add : Served ws category → freightPart ws category side + passengerPart ws category side ≡ pool ws category 0 side
+  pub parts-add : ToDivideBy ws category → freightPart ws category side + passengerPart ws category side ≡ pool ws category 0 side
   unfolding dividedAll
   parts-add served =
       let A = pool ws category 0 side in
       sym (sum-two (divided A both-weights) (shares-length A both-weights)) ∙ shares-sum A both-weights (inl (both-some served))
 
   -- and each part of it is near to its exact part
-  all-near : Served ws category → (k : ℕ)
-      → Within 1 (at (dividedAll ws category side) k) (pool ws category 0 side * at both-weights k) (activityAmong ws category freight + passengerMass ws category)
+  all-near : ToDivideBy ws category → (k : ℕ)
+      → Within 1 (at (dividedAll ws category side) k) (pool ws category 0 side * at both-weights k) (activityAmong ws category freight + passengersByMass ws category)
   unfolding dividedAll
   all-near served k = rw (sum-two both-weights refl) at (share-near (pool ws category 0 side) both-weights (both-some served) k)
 
@@ -188,16 +183,16 @@ module _ (ws : List ℕ) (category : ℕ) (side : Side) (p : ℕ) where
   groupShare g = partAt ws category (ofGroup g) (pool ws category g side) p
 
 module _ (ws : List ℕ) (category : ℕ) (side : Side) (h : Handed ws category side) (p : ℕ) where
-  freight-none : goesTo ws category freight p ≡ false → freightShare ws category side p ≡ 0
+  freight-none : takesPart ws category freight p ≡ false → freightShare ws category side p ≡ 0
   freight-none = part-none ws category freight (freightPart ws category side) (h .freight-divisible) p
 
-  passengers-none : goesTo ws category passengers p ≡ false → passengerShare ws category side p ≡ 0
+  passengers-none : takesPart ws category passengers p ≡ false → passengerShare ws category side p ≡ 0
   passengers-none = part-none ws category passengers (passengerPart ws category side) (h .passengers-divisible) p
 
-  chilled-none : goesTo ws category (ofGroup 1) p ≡ false → groupShare ws category side p 1 ≡ 0
+  chilled-none : takesPart ws category (ofGroup 1) p ≡ false → groupShare ws category side p 1 ≡ 0
   chilled-none = part-none ws category (ofGroup 1) (pool ws category 1 side) (h .chilled-divisible) p
 
-  frozen-none : goesTo ws category (ofGroup 2) p ≡ false → groupShare ws category side p 2 ≡ 0
+  frozen-none : takesPart ws category (ofGroup 2) p ≡ false → groupShare ws category side p 2 ≡ 0
   frozen-none = part-none ws category (ofGroup 2) (pool ws category 2 side) (h .frozen-divisible) p
 
   -- An element of another category gets nothing.
@@ -228,10 +223,10 @@ module _ (ws : List ℕ) (category : ℕ) (side : Side) (h : Handed ws category 
   F = activityAmong ws category freight
 
   abbrev P : ℕ
-  P = passengerMass ws category
+  P = passengersByMass ws category
 
   -- its share of the freight part (k is 0) or of the passenger part (k is 1) of A
-  of-all-near : (k : ℕ) (codes : Codes) → goesTo ws category codes p ≡ true
+  of-all-near : (k : ℕ) (codes : Codes) → takesPart ws category codes p ≡ true
       → Within 2 (partAt ws category codes (at (dividedAll ws category side) k) p) (A * at (F ∷ P ∷ []) k * activity) ((F + P) * activityAmong ws category codes)
   of-all-near k codes e =
       near-chain (all-near ws category side (h .served) k)

@@ -8,36 +8,39 @@ use Rattle.book_words.specs.Book.{unnumbered, categories, isClosed, elementAt, 
 use Rattle.book_words.specs.Soundness.{sound}
 use Rattle.book_words.specs.Totals.{operation, provision, Side}
 use Rattle.book_shares.specs.Shares.{closingShare}
-use Rattle.book_shares.specs.Sums.{pool, activityAmong, ofGroup, freight, passengerMass}
+use Rattle.book_shares.specs.Sums.{pool, activityAmong, ofGroup, freight, passengersByMass}
 
 -- ground 9: "a B, operation or provision, is above 0 and its S is 0"
-abbrev pub unserved : List ℕ → ℕ → ℕ → Bool
-unserved ws category group =
+abbrev pub poolWithoutElements : List ℕ → ℕ → ℕ → Bool
+poolWithoutElements ws category group =
     (ltb 0 (pool ws category group operation) || ltb 0 (pool ws category group provision))
     && eqb (activityAmong ws category (ofGroup group)) 0
 
 -- ground 9: "F+P is 0"
-abbrev pub nobodyServed : List ℕ → ℕ → Bool
-nobodyServed ws category = eqb (activityAmong ws category freight + passengerMass ws category) 0
+abbrev pub nothingToDivideBy : List ℕ → ℕ → Bool
+nothingToDivideBy ws category = eqb (activityAmong ws category freight + passengersByMass ws category) 0
 
 abbrev pub closeGrounds : List ℕ → ℕ → List Ground
 closeGrounds ws category =
     (1, not (sound ws))
     ∷ (2, unnumbered (categories ws) category)
     ∷ (4, isClosed ws category)
-    ∷ (9, nobodyServed ws category || unserved ws category 1 || unserved ws category 2)
+    ∷ (9, nothingToDivideBy ws category || poolWithoutElements ws category 1 || poolWithoutElements ws category 2)
     ∷ []
 
 unfoldable pub closeRefusal : List ℕ → ℕ → ℕ
 closeRefusal ws category = firstOf (closeGrounds ws category)
 
--- each element of the category among the first n gets its shares
+-- the element at this place, where it is of the category, gets these two shares
+abbrev pub giveShares : List ℕ → ℕ → ℕ → ℕ → ℕ → List ℕ
+giveShares ws category place byOperation byProvision =
+    cond (eqb (elementAt ws place .category) category) (putShares ws place byOperation byProvision) ws
+
+-- so do the elements at the first n places, one after the other
 abbrev pub handOut : ℕ → List ℕ → ℕ → (Side → ℕ → ℕ) → List ℕ
 handOut zero ws category share = ws
 handOut (suc n) ws category share =
-    cond (eqb (elementAt ws n .category) category)
-    (putShares (handOut n ws category share) n (share operation n) (share provision n))
-    (handOut n ws category share)
+    giveShares (handOut n ws category share) category n (share operation n) (share provision n)
 
 -- every element of the category gets its shares, and the category is closed
 unfoldable pub closeWith : List ℕ → ℕ → (Side → ℕ → ℕ) → List ℕ

@@ -42,8 +42,8 @@ intensityOf ws category code side =
     (freightIntensity ws category side + cond (eqb code 0) 0 (groupIntensity ws category code side))
 
 -- ground 9: "intensity: its F, S or C is 0"
-abbrev pub idle : List ℕ → ℕ → ℕ → Bool
-idle ws category code =
+abbrev pub lacksActivity : List ℕ → ℕ → ℕ → Bool
+lacksActivity ws category code =
     cond (eqb code 100)
     (eqb (activityAmong ws category passengers) 0)
     (eqb (activityAmong ws category freight) 0
@@ -63,7 +63,7 @@ intensityGrounds ws category code =
     ∷ (2, unnumbered (categories ws) category)
     ∷ (3, not (isIntensityCode code))
     ∷ (5, not (isClosed ws category))
-    ∷ (9, idle ws category code)
+    ∷ (9, lacksActivity ws category code)
     ∷ (10, passesIntensity ws category code)
     ∷ []
 

@@ -10,12 +10,12 @@ use Rattle.book_words.specs.Measures.{isFreight}
 use Rattle.book_words.specs.Totals.{Side}
 use Rattle.book_words.specs.declared.records.Element.{Element}
 use Rattle.book_shares.specs.declared.weights.Codes.{Codes}
-use Rattle.book_shares.specs.Sums.{pool, activityAmong, freight, passengerMass, among, passengers, ofGroup}
+use Rattle.book_shares.specs.Sums.{pool, activityAmong, freight, passengersByMass, among, passengers, ofGroup}
 
 -- "Divide A by the weights F, P in that order."
 unfoldable pub dividedAll : List ℕ → ℕ → Side → List ℕ
 dividedAll ws category side =
-    divided (pool ws category 0 side) (activityAmong ws category freight ∷ passengerMass ws category ∷ [])
+    divided (pool ws category 0 side) (activityAmong ws category freight ∷ passengersByMass ws category ∷ [])
 
 abbrev pub freightPart : List ℕ → ℕ → Side → ℕ
 freightPart ws category side = at (dividedAll ws category side) 0
@@ -24,7 +24,8 @@ abbrev pub passengerPart : List ℕ → ℕ → Side → ℕ
 passengerPart ws category side = at (dividedAll ws category side) 1
 
 -- the activities of the elements that a pool goes to. There is a weight for every element of the book, in its place, and it is 0
--- for those that the pool does not go to: these get 0, and the others what they would get alone (`alone`)
+-- for those that the pool does not go to: where the pool can be divided, these get 0 and the others what they would get alone
+-- (law `alone`)
 unfoldable pub weights : List ℕ → ℕ → Codes → List ℕ
 weights ws category codes = listBelow (elements ws) (λ p. among category codes (λ e. e .activity) (elementAt ws p))
 
@@ -68,7 +69,7 @@ exactIn ws category side e =
     exactShare
     (pool ws category 0 side)
     (activityAmong ws category freight)
-    (passengerMass ws category)
+    (passengersByMass ws category)
     (activityAmong ws category passengers)
     (λ g. pool ws category g side)
     (λ g. activityAmong ws category (ofGroup g))

@@ -7,8 +7,8 @@ ghost use Rattle.apportion.specs.Places.{at, listBelow};
 ghost use Rattle.book_words.specs.Book.{elements, bookLength, mostElements};
 ghost use Rattle.book_words.specs.Soundness.{sound};
 ghost use Rattle.book_shares.specs.declared.pools.Stage.the-variants.{Operation, Provision};
-ghost use Rattle.book_shares.specs.Closing.{closeRefusal, closeBook, unserved, closeWith, handOut};
-ghost use Rattle.book_shares.specs.Dealing.{sideAt, besides, giveShares};
+ghost use Rattle.book_shares.specs.Closing.{closeRefusal, closeBook, poolWithoutElements, closeWith, handOut, giveShares};
+ghost use Rattle.book_shares.specs.Dealing.{sideAt, listsBySide};
 ghost use Rattle.book_shares.specs.Shares.{closingShare};
 use crate::pools;
 use crate::pools::Stage;
@@ -41,21 +41,21 @@ fn refusal_number(book: &[u64], category: u64) -> u64
     if r.closed != 0 {
         return 4;
     }
-    let freight = weights::activity_among(book, category, weights::FREIGHT);
-    let passengers = weights::passenger_mass(book, category);
-    if freight + passengers == 0 {
+    let activity = weights::activity_among(book, category, weights::FREIGHT);
+    let mass = weights::passengers_by_mass(book, category);
+    if activity + mass == 0 {
         return 9;
     }
-    if is_unserved(book, category, 1) | is_unserved(book, category, 2) {
+    if is_without_elements(book, category, 1) | is_without_elements(book, category, 2) {
         return 9;
     }
     0
 }
 
 // A pool of this group is above 0, and no element can take it.
-fn is_unserved(book: &[u64], category: u64, group: u64) -> bool
+fn is_without_elements(book: &[u64], category: u64, group: u64) -> bool
     requires { ⌜ sound (now book) ≡ true ⌝ }
-    ensures { λ r. ⌜ r ≡ unserved (now (book .entry)) category group ⌝ }
+    ensures { λ r. ⌜ r ≡ poolWithoutElements (now (book .entry)) category group ⌝ }
 {
     let operation = pools::pool(book, category, group, Stage::Operation);
     let provision = pools::pool(book, category, group, Stage::Provision);
@@ -103,7 +103,7 @@ fn settle_sides(book: &mut [u64], category: u64, operation: &mut [u64], provisio
 fn hand_out(book: &mut [u64], category: u64, operation: &[u64], provision: &[u64])
     requires { ⌜ bookLength ≤ length (now book) ⌝ }
     requires { ⌜ (length (now operation) ≤ mostElements) × (length (now provision) ≡ length (now operation)) ⌝ }
-    ensures { λ _. ⌜ now (book .exit) ≡ handOut (length (now (operation .entry))) (now (book .entry)) category (besides (now (operation .entry)) (now (provision .entry))) ⌝ }
+    ensures { λ _. ⌜ now (book .exit) ≡ handOut (length (now (operation .entry))) (now (book .entry)) category (listsBySide (now (operation .entry)) (now (provision .entry))) ⌝ }
 {
     let mut place = 0;
     while place < operation.len() {

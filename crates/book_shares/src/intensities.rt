@@ -8,7 +8,7 @@ ghost use Rattle.book_words.specs.Measures.{between, nearest};
 ghost use Rattle.book_words.specs.Soundness.{sound};
 ghost use Rattle.book_words.specs.Totals.{capped};
 ghost use Rattle.book_shares.specs.Dealing.{sideAt, scaleTens};
-ghost use Rattle.book_shares.specs.Intensities.{intensityReply, intensityRefusal, idle, intensityOf};
+ghost use Rattle.book_shares.specs.Intensities.{intensityReply, intensityRefusal, lacksActivity, intensityOf};
 use crate::pools;
 use crate::pools::Stage;
 use crate::sharing;
@@ -62,7 +62,7 @@ fn refusal_number(book: &[u64], category: u64, code: u64) -> u64
     if r.closed == 0 {
         return 5;
     }
-    if is_idle(book, category, code) {
+    if lacks_activity(book, category, code) {
         return 9;
     }
     let operation = result(book, category, code, Stage::Operation);
@@ -74,9 +74,9 @@ fn refusal_number(book: &[u64], category: u64, code: u64) -> u64
 }
 
 // F, S or C of the intensity is 0.
-fn is_idle(book: &[u64], category: u64, code: u64) -> bool
+fn lacks_activity(book: &[u64], category: u64, code: u64) -> bool
     requires { ⌜ sound (now book) ≡ true ⌝ }
-    ensures { λ r. ⌜ r ≡ idle (now (book .entry)) category code ⌝ }
+    ensures { λ r. ⌜ r ≡ lacksActivity (now (book .entry)) category code ⌝ }
 {
     if code == 100 {
         return weights::activity_among(book, category, weights::PASSENGERS) == 0;
@@ -93,7 +93,7 @@ fn is_idle(book: &[u64], category: u64, code: u64) -> bool
 fn result(book: &[u64], category: u64, code: u64, stage: Stage) -> u64
     requires { ⌜ sound (now book) ≡ true ⌝ }
     requires { ⌜ between 1 (categories (now book)) category ≡ true ⌝ }
-    requires { ⌜ idle (now book) category code ≡ false ⌝ }
+    requires { ⌜ lacksActivity (now book) category code ≡ false ⌝ }
     ensures { λ r. ⌜ r ≡ capped (intensityOf (now (book .entry)) category code (sideAt stage)) ⌝ }
 {
     let parts = sharing::divide_all(book, category, stage);
@@ -107,13 +107,13 @@ fn result(book: &[u64], category: u64, code: u64, stage: Stage) -> u64
     if code == 0 {
         return freight;
     }
-    let group = pools::pool(book, category, code, stage);
+    let amount = pools::pool(book, category, code, stage);
     let codes = Codes {
         first: code,
         last: code,
     };
-    let share = weights::activity_among(book, category, codes);
-    book_words::add(freight, quotient(group, tens, share))
+    let activity = weights::activity_among(book, category, codes);
+    book_words::add(freight, quotient(amount, tens, activity))
 }
 
 // How many tens the scale of a kind is the product of: none for a hub, else three.
@@ -126,12 +126,13 @@ fn scale_tens(kind: u64) -> u64
     3
 }
 
-// Amount × 10^tens / total, nearest, halves up, capped. The product passes 64 bits, so it is divided ten by
-// ten, as by hand.
+// Amount × 10^tens / total, nearest, halves up, capped. The product passes 64 bits, so the quotient is made
+// ten by ten.
 fn quotient(amount: u64, tens: u64, total: u64) -> u64
     requires { ⌜ (0 < total) × (total ≤ largest) ⌝ }
     ensures { λ r. ⌜ r ≡ capped (nearest (amount * 10 ^ tens) total) ⌝ }
 {
+    // Adding 0 caps it.
     let mut whole = book_words::add(amount / total, 0);
     let mut rest = amount % total;
     let mut left = tens;

@@ -8,7 +8,7 @@ ghost use Rattle.apportion.specs.Places.{at, listBelow};
 ghost use Rattle.book_words.specs.Book.{elements};
 ghost use Rattle.book_words.specs.Soundness.{sound};
 ghost use Rattle.book_shares.specs.Closing.{closeRefusal};
-ghost use Rattle.book_shares.specs.Dealing.{Served, sideAt, Dealable};
+ghost use Rattle.book_shares.specs.Dealing.{ToDivideBy, sideAt, Dealable};
 ghost use Rattle.book_shares.specs.Shares.{freightPart, passengerPart, partAt, weights as weightsOf, closingShare};
 use crate::pools;
 use crate::pools::Stage;
@@ -25,14 +25,15 @@ pub struct Parts {
 // Divides A by the weights F and P, in that order.
 pub fn divide_all(book: &[u64], category: u64, stage: Stage) -> Parts
     requires { ⌜ sound (now book) ≡ true ⌝ }
-    requires { ⌜ Served (now book) category ⌝ }
+    requires { ⌜ ToDivideBy (now book) category ⌝ }
     ensures { λ r. ⌜ r ≡ record { freight = freightPart (now (book .entry)) category (sideAt stage); passengers = passengerPart (now (book .entry)) category (sideAt stage) } ⌝ }
 {
     let all = pools::pool(book, category, 0, stage);
-    let freight = weights::activity_among(book, category, weights::FREIGHT);
-    let passengers = weights::passenger_mass(book, category);
+    let activity = weights::activity_among(book, category, weights::FREIGHT);
+    let mass = weights::passengers_by_mass(book, category);
     let mut parts = [0u64; 2];
-    apportion::divide(all, &[freight, passengers], &mut parts);
+    // Accepted: the weights sum to more than 0, and they and A are within 10^18.
+    apportion::divide(all, &[activity, mass], &mut parts);
     Parts {
         freight: parts[0],
         passengers: parts[1],
@@ -80,6 +81,7 @@ fn deal_parts(
     ensures { λ _. ⌜ now (shares .exit) ≡ listBelow (elements (now (book .entry))) (λ k. at (now (shares .entry)) k + partAt (now (book .entry)) category codes amount k) ⌝ }
 {
     set_weights(book, category, codes, weights);
+    // Accepted: where the weights sum to 0 the amount is 0, and both are within 10^18.
     apportion::divide(amount, weights, parts);
     add_parts(parts, shares);
 }

@@ -1,15 +1,13 @@
 // The elements that a pool goes to, and their activities: F, C and S, and P.
-ghost use mathlib.Core.Bool.{_&&_, true};
+ghost use mathlib.Core.Bool.{true};
 ghost use mathlib.Core.Path.{_≡_};
-ghost use Prim.Native.Nat.{_*_};
-ghost use lib.Dec.{eqb};
 ghost use lib.ListN.{length};
 ghost use Rattle.book_words.specs.Book.{elements};
-ghost use Rattle.book_words.specs.Measures.{between};
+ghost use Rattle.book_words.specs.Measures.{byMass};
 ghost use Rattle.book_words.specs.Soundness.{sound};
 ghost use Rattle.book_words.specs.Totals.{capped};
 ghost use Rattle.book_shares.specs.Shares.{weights as weightsOf};
-ghost use Rattle.book_shares.specs.Sums.{passengers, among, activityAmong, passengerMass};
+ghost use Rattle.book_shares.specs.Sums.{goesTo, among, activityAmong, passengers, passengersByMass};
 use book_words::Element;
 
 // The codes from the first to the last.
@@ -28,8 +26,8 @@ pub const PASSENGERS: Codes = Codes {
 };
 
 // The element is of this category and has one of these codes.
-fn takes(category: u64, codes: Codes, e: Element) -> bool
-    ensures { λ r. ⌜ r ≡ eqb (e .category) category && between (codes .first) (codes .last) (e .code) ⌝ }
+fn goes_to(category: u64, codes: Codes, e: Element) -> bool
+    ensures { λ r. ⌜ r ≡ goesTo category codes e ⌝ }
 {
     (e.category == category) & ((codes.first <= e.code) & (e.code <= codes.last))
 }
@@ -38,7 +36,7 @@ fn takes(category: u64, codes: Codes, e: Element) -> bool
 fn weight(category: u64, codes: Codes, e: Element) -> u64
     ensures { λ r. ⌜ r ≡ among category codes (λ x. x .activity) e ⌝ }
 {
-    if takes(category, codes, e) {
+    if goes_to(category, codes, e) {
         return e.activity;
     }
     0
@@ -75,26 +73,26 @@ pub fn activity_among(book: &[u64], category: u64, codes: Codes) -> u64
 }
 
 // Head count × 100 × distance of a passenger element of this category, capped; 0 for any other.
-fn mass(category: u64, e: Element) -> u64
-    ensures { λ r. ⌜ r ≡ capped (among category passengers (λ x. x .amount * 100 * x .distance) e) ⌝ }
+fn by_mass(category: u64, e: Element) -> u64
+    ensures { λ r. ⌜ r ≡ capped (among category passengers byMass e) ⌝ }
 {
-    if takes(category, PASSENGERS, e) {
+    if goes_to(category, PASSENGERS, e) {
         return book_words::multiply(book_words::multiply(e.amount, 100), e.distance);
     }
     0
 }
 
 // P.
-pub fn passenger_mass(book: &[u64], category: u64) -> u64
+pub fn passengers_by_mass(book: &[u64], category: u64) -> u64
     requires { ⌜ sound (now book) ≡ true ⌝ }
-    ensures { λ r. ⌜ r ≡ passengerMass (now (book .entry)) category ⌝ }
+    ensures { λ r. ⌜ r ≡ passengersByMass (now (book .entry)) category ⌝ }
 {
     let count = book[book_words::ELEMENTS];
     let mut sum = 0;
     let mut passed = 0;
     while passed < count {
         let e = book_words::element_of(book, passed + 1);
-        sum = book_words::add(sum, mass(category, e));
+        sum = book_words::add(sum, by_mass(category, e));
         passed += 1;
     }
     sum

@@ -1,4 +1,4 @@
--- Laws of tests joined by `&&`. Assumes nothing.
+-- Laws of tests joined by `&&`, and of choices by a test. Assumes nothing.
 use mathlib.Core.Bool.{Bool, _&&_, true, false, true≢false, cond}
 use mathlib.Core.Path.{_≡_, refl, sym}
 use Prim.Native.Nat.{ℕ, _≤_}
@@ -22,11 +22,6 @@ cond-false t x y e = rw e
 pub cond-same : {A : Type 0} (t : Bool) (x : A) → cond t x x ≡ x
 cond-same true x = refl
 cond-same false x = refl
-
--- two tests, one inside the other, are the two joined
-pub cond-both : (a b : Bool) (n : ℕ) → cond a (cond b n 0) 0 ≡ cond (a && b) n 0
-cond-both true b n = refl
-cond-both false b n = refl
 
 -- what is added where a test holds is no more than the whole
 pub cond-most : (t : Bool) (n : ℕ) → cond t n 0 ≤ n

@@ -1,4 +1,4 @@
--- The sums over a list that is the same in two books. Assumes nothing.
+-- What is the same, and the sums over a list that is the same in two books. Assumes nothing.
 use mathlib.Core.Bool.{cond}
 use mathlib.Core.List.{List}
 use mathlib.Core.Logic.{_⊎_, ⊎-elim, inr, inl}

@@ -7,9 +7,9 @@ use native.Mathlib.Omega.{arith}
 use borrow.Author.Tests.{not-false, ne-eqb, eq-eqb, le-leb}
 use Rattle.book_words.specs.declared.records.Category.{Category}
 use Rattle.book_words.specs.declared.records.Entry.{Entry}
-use Rattle.book_words.specs.Book.{numberedCategory, categories, categoryOf, numberedEntry, entries, entryAt, unnumbered, isClosed, elements, numberedElement, elementAt}
+use Rattle.book_words.specs.Book.{categories, categoryOf, entries, entryAt, unnumbered, isClosed, elements, elementAt}
 use Rattle.book_words.specs.Measures.{between}
-use Rattle.apportion.proofs.Grounds.{passed}
+use Rattle.book_words.specs.Parts.{numberedCategory, numberedEntry, numberedElement}
 
 pub category-there : (ws : List ℕ) (number : ℕ) (r : Category) → r ≡ numberedCategory ws number → between 1 (categories ws) number ≡ true → r ≡ categoryOf ws number
 category-there ws number r is inside = is ∙ rw inside

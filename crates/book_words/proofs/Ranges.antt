@@ -3,12 +3,11 @@ use mathlib.Core.Bool.{true, Bool, _||_, false, cond}
 use mathlib.Core.Logic.{_⊎_, ⊎-elim}
 use mathlib.Core.Path.{_≡_, refl}
 use Prim.Native.Nat.{ℕ, _≤_, _<_, _*_}
-use native.Mathlib.Nat.{mul-le-mul}
+use native.Mathlib.Nat.{mul-le-mul, eq-zero-or-pos}
 use native.Mathlib.Omega.{arith}
 use lib.Dec.{leb, eqb}
-use borrow.Author.Tests.{leb-true, lt-leb, eqb-true, leb-false, le-leb}
+use borrow.Author.Tests.{leb-true, lt-leb, eqb-true, leb-false, le-leb, eqb-false}
 use Rattle.apportion.specs.Dividing.{largest}
-use Rattle.apportion.specs.Places.{at}
 use Rattle.book_words.specs.Measures.{between, isCode, isFreight, isPassenger, isAmount, isDistance, isHub, activityOf}
 use Rattle.book_words.proofs.Booleans.{both, and-both, and-false}
 
@@ -17,6 +16,10 @@ between-low low high n e = leb-true low n (both (leb low n) (leb n high) e .0)
 
 pub between-high : (low high n : ℕ) → between low high n ≡ true → n ≤ high
 between-high low high n e = leb-true n high (both (leb low n) (leb n high) e .1)
+
+-- a number that is not 0
+pub above-zero : (n : ℕ) → eqb n 0 ≡ false → 0 < n
+above-zero n e = ⊎-elim (λ (none : n ≡ 0). absurd (eqb-false n 0 e none)) (λ (l : 0 < n). l) (eq-zero-or-pos n)
 
 -- a number in a range, and one that is not
 pub between-inside : (low high n : ℕ) → low ≤ n → n ≤ high → between low high n ≡ true

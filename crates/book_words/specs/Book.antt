@@ -1,6 +1,6 @@
 -- "The book" of document 01: a lent slice of 64-bit words, given here as the list of its words. "Records are numbered from
 -- 1"; places are counted from 0, and the record of number n stands at place n - 1. Assumes nothing.
-use mathlib.Core.Bool.{cond, Bool, not}
+use mathlib.Core.Bool.{Bool, not}
 use mathlib.Core.List.{List, [], _∷_}
 use Prim.Native.Nat.{ℕ, _+_, _*_, _-_}
 use lib.Dec.{eqb}
@@ -131,36 +131,10 @@ addEntry ws r = set (putEntry ws (entries ws) r) 2 (entries ws + 1)
 unfoldable pub addElement : List ℕ → Element → List ℕ
 addElement ws r = set (putElement ws (elements ws) r) 3 (elements ws + 1)
 
--- the record of this number, or zeros where there is none
-abbrev pub numberedCategory : List ℕ → ℕ → Category
-numberedCategory ws number =
-    cond (between 1 (categories ws) number) (categoryOf ws number) (record { kind = 0; closed = 0 })
-
-abbrev pub numberedEntry : List ℕ → ℕ → Entry
-numberedEntry ws number =
-    cond (between 1 (entries ws) number)
-    (entryOf ws number)
-    (record { category = 0; group = 0; operation = 0; provision = 0; struck = 0 })
-
-abbrev pub numberedElement : List ℕ → ℕ → Element
-numberedElement ws number =
-    cond (between 1 (elements ws) number)
-    (elementAt ws (number - 1))
-    (record {
-      category = 0;
-      chain = 0;
-      code = 0;
-      amount = 0;
-      distance = 0;
-      activity = 0;
-      operation = 0;
-      provision = 0;
-    })
-
 -- ground 2: "A category or entry number is not between 1 and its count."
 abbrev pub unnumbered : ℕ → ℕ → Bool
 unnumbered count number = not (between 1 count number)
 
--- ground 4: "A closed category"
+-- grounds 4 and 5: "A closed category", "an open category"
 abbrev pub isClosed : List ℕ → ℕ → Bool
 isClosed ws category = not (eqb (categoryOf ws category .closed) 0)

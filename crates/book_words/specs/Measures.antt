@@ -71,10 +71,13 @@ unfoldable pub activityOf : ℕ → ℕ → ℕ → ℕ → ℕ
 activityOf kind code amount distance =
     cond (isFreight code) (cond (isHub kind) amount (amount * distance)) (amount * code * distance)
 
--- an element's activity in ground 10: "passengers as in P", which is "head count × 100 × distance (100 kg per
--- passenger, Annex A.4.2)"
+-- passengers by mass, as they count in P: "head count × 100 × distance (100 kg per passenger, Annex A.4.2)"
+abbrev pub byMass : Element → ℕ
+byMass e = e .amount * 100 * e .distance
+
+-- an element's activity in ground 10: "passengers as in P"
 unfoldable pub massActivity : Element → ℕ
-massActivity e = cond (isFreight (e .code)) (e .activity) (e .amount * 100 * e .distance)
+massActivity e = cond (isFreight (e .code)) (e .activity) (byMass e)
 
 -- "nearest, halves up": the whole number nearest to n / d
 abbrev pub nearest : ℕ → ℕ → ℕ

@@ -1,11 +1,15 @@
 -- What the inner functions of the book require, and what the parts of its test answer. Assumes nothing.
-use mathlib.Core.Bool.{Bool}
+use mathlib.Core.Bool.{Bool, cond}
 use mathlib.Core.List.{List}
-use Prim.Native.Nat.{ℕ, _≤_, zero, suc}
+use Prim.Native.Nat.{ℕ, _≤_, zero, suc, _-_}
 use lib.ListN.{length}
 use Rattle.apportion.specs.Dividing.{largest}
+use Rattle.book_words.specs.declared.records.Category.{Category}
+use Rattle.book_words.specs.declared.records.Element.{Element}
+use Rattle.book_words.specs.declared.records.Entry.{Entry}
 use Rattle.book_words.specs.declared.totals.Amounts.{Amounts}
-use Rattle.book_words.specs.Book.{bookLength, categories, mostCategories, entries, mostEntries, elements, mostElements, categoryAt, entryAt, elementAt}
+use Rattle.book_words.specs.Book.{bookLength, categories, mostCategories, entries, mostEntries, elements, mostElements, categoryAt, entryAt, elementAt, categoryOf, entryOf}
+use Rattle.book_words.specs.Measures.{between}
 use Rattle.book_words.specs.Soundness.{categoryFine, entryFine, elementFine, sharesFine}
 use Rattle.book_words.specs.Totals.{Side, emitted, operation, provision}
 
@@ -40,3 +44,29 @@ sideOf provision a = a .provision
 
 abbrev pub bySides : (Side → ℕ) → Amounts
 bySides amount = record { operation = amount operation; provision = amount provision }
+
+-- the record of this number, or zeros where there is none
+abbrev pub numberedCategory : List ℕ → ℕ → Category
+numberedCategory ws number =
+    cond (between 1 (categories ws) number) (categoryOf ws number) (record { kind = 0; closed = 0 })
+
+abbrev pub numberedEntry : List ℕ → ℕ → Entry
+numberedEntry ws number =
+    cond (between 1 (entries ws) number)
+    (entryOf ws number)
+    (record { category = 0; group = 0; operation = 0; provision = 0; struck = 0 })
+
+abbrev pub numberedElement : List ℕ → ℕ → Element
+numberedElement ws number =
+    cond (between 1 (elements ws) number)
+    (elementAt ws (number - 1))
+    (record {
+      category = 0;
+      chain = 0;
+      code = 0;
+      amount = 0;
+      distance = 0;
+      activity = 0;
+      operation = 0;
+      provision = 0;
+    })

@@ -3,9 +3,9 @@
 ghost use mathlib.Core.Bool.{true};
 ghost use mathlib.Core.Path.{_≡_};
 ghost use Prim.Native.Nat.{_<_};
-ghost use Rattle.book_words.specs.Book.{numberedCategory, numberedEntry, numberedElement, mostEntries, entryAt, mostElements, elementAt, mostCategories};
+ghost use Rattle.book_words.specs.Book.{mostEntries, entryAt, mostElements, elementAt, mostCategories};
 ghost use Rattle.book_words.specs.Measures.{isCode};
-ghost use Rattle.book_words.specs.Parts.{CountsWithin, Limited, countIn, recordFine};
+ghost use Rattle.book_words.specs.Parts.{numberedCategory, numberedEntry, numberedElement, CountsWithin, Limited, countIn, recordFine};
 ghost use Rattle.book_words.specs.Soundness.{sound, headerFine, sumsFine, allBelow, categoryFine, entryFine, entrySuits, elementFine, quotedSuits, elementSuits, measured as measuredFor, sharesWait, sharesFine};
 use crate::measures;
 use crate::records;

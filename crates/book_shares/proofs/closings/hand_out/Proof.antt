@@ -7,14 +7,14 @@ use native.Mathlib.Omega.{arith}
 use lib.ListN.{length}
 use borrow.Author.Needs.{needs}
 use Rattle.apportion.specs.Places.{at}
-use Rattle.book_shares.specs.Closing.{handOut}
-use Rattle.book_shares.specs.Dealing.{besides, giveShares}
+use Rattle.book_shares.specs.Closing.{handOut, giveShares}
+use Rattle.book_shares.specs.Dealing.{listsBySide}
 use Rattle.book_shares.proofs.Closed.{put-length, put-next}
 use Rattle.book_shares.proofs.closings.hand_out.Statement.{statement}
 use Rattle.book_shares.proofs.closings.hand_out.Tie as tie
 
 abbrev Inv-loop : tie.InvT-loop
-Inv-loop book₀ category operation provision place₀ book place = (place ≤ length operation) × (book ≡ handOut place book₀ category (besides operation provision))
+Inv-loop book₀ category operation provision place₀ book place = (place ≤ length operation) × (book ≡ handOut place book₀ category (listsBySide operation provision))
 
 abbrev μ-loop : tie.MeasureT-loop
 μ-loop book₀ category operation provision place₀ book place = length operation - place
@@ -36,8 +36,9 @@ shared-slice-read-give-shares-2 c = search needs
 
 give-shares-requires : tie.Need-give-shares-requires Inv-loop μ-loop
 give-shares-requires c κs =
-    let long = put-length (c .before .before .before .before .before .before .before .before .args .book .now) (c .before .before .before .before .before .before .before .before .args .category) (besides (c .before .before .before .before .before .before .before .before .args .operation .now) (c .before .before .before .before .before .before .before .before .args .provision .now)) (c .before .before .before .before .loop .place) in
-    (omega (arith, c .before .before .before .before .before .before .before .before .pre .0, long, ap length (c .before .before .before .before .loop .inv .1)), omega (arith, c .before .before .before .before .before .before .before .before .pre .1 .0, c .before .before .before .loop-test .taken))
+    let s = c .before .before .before .before .before .before .before .before in
+    let long = put-length (s .args .book .now) (s .args .category) (listsBySide (s .args .operation .now) (s .args .provision .now)) (c .before .before .before .before .loop .place) in
+    (omega (arith, s .pre .0, long, ap length (c .before .before .before .before .loop .inv .1)), omega (arith, s .pre .1 .0, c .before .before .before .loop-test .taken))
 
 add-place : tie.Need-add-place Inv-loop μ-loop
 add-place c = search needs
@@ -46,22 +47,25 @@ loop-less : tie.Need-loop-less Inv-loop μ-loop
 loop-less c = omega arith
 
 loop-again : tie.Need-loop-again Inv-loop μ-loop
-loop-again c = (
-  omega arith,
-  c .before .before .give-shares .ensures
-      ∙ ap (λ (ws : List ℕ). giveShares ws (c .before .before .before .before .before .before .before .before .before .before .before .args .category) (c .before .before .before .before .before .before .before .loop .place) (at (c .before .before .before .before .before .before .before .before .before .before .before .args .operation .now) (c .before .before .before .before .before .before .before .loop .place)) (at (c .before .before .before .before .before .before .before .before .before .before .before .args .provision .now) (c .before .before .before .before .before .before .before .loop .place))) (c .before .before .before .before .before .before .before .loop .inv .1)
-      ∙ put-next (c .before .before .before .before .before .before .before .before .before .before .before .args .book .now) (c .before .before .before .before .before .before .before .before .before .before .before .args .category) (besides (c .before .before .before .before .before .before .before .before .before .before .before .args .operation .now) (c .before .before .before .before .before .before .before .before .before .before .before .args .provision .now)) (c .before .before .before .before .before .before .before .loop .place),
-)
+loop-again c =
+    let s = c .before .before .before .before .before .before .before .before .before .before .before in (
+      omega arith,
+      c .before .before .give-shares .ensures
+          ∙ ap (λ (ws : List ℕ). giveShares ws (s .args .category) (c .before .before .before .before .before .before .before .loop .place) (at (s .args .operation .now) (c .before .before .before .before .before .before .before .loop .place)) (at (s .args .provision .now) (c .before .before .before .before .before .before .before .loop .place))) (c .before .before .before .before .before .before .before .loop .inv .1)
+          ∙ put-next (s .args .book .now) (s .args .category) (listsBySide (s .args .operation .now) (s .args .provision .now)) (c .before .before .before .before .before .before .before .loop .place),
+    )
 
 same-length : tie.Need-same-length Inv-loop μ-loop
 same-length c =
-    let long = put-length (c .before .before .before .before .before .args .book .now) (c .before .before .before .before .before .args .category) (besides (c .before .before .before .before .before .args .operation .now) (c .before .before .before .before .before .args .provision .now)) (c .before .loop .place) in
+    let s = c .before .before .before .before .before in
+    let long = put-length (s .args .book .now) (s .args .category) (listsBySide (s .args .operation .now) (s .args .provision .now)) (c .before .loop .place) in
     ap length (c .before .loop .inv .1) ∙ long
 
 returns : tie.Need-returns Inv-loop μ-loop
 returns c =
-    let end : c .before .loop .place ≡ length (c .before .before .before .before .before .args .operation .now) = omega (arith, c .before .loop .inv .0, c .loop-test .left) in
-    c .before .loop .inv .1 ∙ ap (λ (n : ℕ). handOut n (c .before .before .before .before .before .args .book .now) (c .before .before .before .before .before .args .category) (besides (c .before .before .before .before .before .args .operation .now) (c .before .before .before .before .before .args .provision .now))) end
+    let s = c .before .before .before .before .before in
+    let end : c .before .loop .place ≡ length (s .args .operation .now) = omega (arith, c .before .loop .inv .0, c .loop-test .left) in
+    c .before .loop .inv .1 ∙ ap (λ (n : ℕ). handOut n (s .args .book .now) (s .args .category) (listsBySide (s .args .operation .now) (s .args .provision .now))) end
 
 pub hand-out-spec : {M : Type 1} → statement M
 hand-out-spec =

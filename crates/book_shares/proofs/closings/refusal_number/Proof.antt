@@ -8,11 +8,11 @@ use lib.ListN.{drop}
 use borrow.Author.Needs.{needs}
 use Rattle.apportion.specs.Grounds.{firstOf}
 use Rattle.book_shares.specs.Closing.{closeRefusal, closeGrounds}
-use Rattle.apportion.proofs.Grounds.{passed, stopped}
+use Rattle.apportion.proofs.Grounds.{stopped, passed}
 use Rattle.book_words.proofs.Facts.{sound-counted}
 use Rattle.book_words.proofs.Numbered.{was-open, was-closed}
 use Rattle.book_shares.proofs.Bounds.{served-limited}
-use Rattle.book_shares.proofs.Closable.{nine, nine-nobody}
+use Rattle.book_shares.proofs.Closable.{nine, nine-nothing}
 use Rattle.book_shares.proofs.closings.refusal_number.Statement.{statement}
 use Rattle.book_shares.proofs.closings.refusal_number.Tie as tie
 
@@ -44,39 +44,46 @@ category-of-requires c κs = search needs
 
 returns-2 : tie.Need-returns-2
 returns-2 c =
+    let s = c .before .before .before .before .before .before in
     sym (past-2 (c .before .before .before)
-    ∙ stopped 4 _ (was-closed (c .before .before .before .before .before .before .args .book .now) (c .before .before .before .before .before .before .args .category) (c .before .before .category-of .result) (c .before .before .category-of .ensures) (c .before .before .before .if1 .left) (c .if2 .taken)))
+    ∙ stopped 4 _ (was-closed (s .args .book .now) (s .args .category) (c .before .before .category-of .result) (c .before .before .category-of .ensures) (c .before .before .before .if1 .left) (c .if2 .taken)))
 
 activity-among-requires : tie.Need-activity-among-requires
 activity-among-requires c κs = search needs
 
-passenger-mass-requires : tie.Need-passenger-mass-requires
-passenger-mass-requires c κs = search needs
+passengers-by-mass-requires : tie.Need-passengers-by-mass-requires
+passengers-by-mass-requires c κs = search needs
 
 add-if3 : tie.Need-add-if3
-add-if3 c = omega (arith, served-limited (c .before .before .before .before .before .before .before .before .args .book .now) (c .before .before .before .before .before .before .before .before .pre) (c .before .before .before .before .before .before .before .before .args .category), c .before .activity-among .ensures, c .passenger-mass .ensures)
+add-if3 c =
+    let s = c .before .before .before .before .before .before .before .before in
+    omega (arith, served-limited (s .args .book .now) (s .pre) (s .args .category), c .before .activity-among .ensures, c .passengers-by-mass .ensures)
 
 returns-3 : tie.Need-returns-3
-returns-3 c = sym (past-3 (c .before .before .before) ∙ stopped 9 0 (nine-nobody (c .before .before .before .before .before .before .before .before .before .args .book .now) (c .before .before .before .before .before .before .before .before .before .args .category) _ _ (c .before .before .activity-among .ensures) (c .before .passenger-mass .ensures) (c .if3 .taken)))
+returns-3 c =
+    let s = c .before .before .before .before .before .before .before .before .before in
+    sym (past-3 (c .before .before .before) ∙ stopped 9 0 (nine-nothing (s .args .book .now) (s .args .category) _ _ (c .before .before .activity-among .ensures) (c .before .passengers-by-mass .ensures) (c .if3 .taken)))
 
-is-unserved-requires : tie.Need-is-unserved-requires
-is-unserved-requires c κs = search needs
+is-without-elements-requires : tie.Need-is-without-elements-requires
+is-without-elements-requires c κs = search needs
 
-is-unserved-requires-2 : tie.Need-is-unserved-requires-2
-is-unserved-requires-2 c κs = search needs
+is-without-elements-requires-2 : tie.Need-is-without-elements-requires-2
+is-without-elements-requires-2 c κs = search needs
 
 returns-4 : tie.Need-returns-4
 returns-4 c =
+    let s = c .before .before .before .before .before .before .before .before .before .before .before .before in
     sym (past-3 (c .before .before .before .before .before .before)
     ∙ stopped 9 0
-    (nine (c .before .before .before .before .before .before .before .before .before .before .before .before .args .book .now) (c .before .before .before .before .before .before .before .before .before .before .before .before .args .category) _ _ _ _ (c .before .before .before .before .before .activity-among .ensures) (c .before .before .before .before .passenger-mass .ensures) (c .before .before .is-unserved .ensures) (c .before .is-unserved2 .ensures) (c .before .before .before .if3 .left)
+    (nine (s .args .book .now) (s .args .category) _ _ _ _ (c .before .before .before .before .before .activity-among .ensures) (c .before .before .before .before .passengers-by-mass .ensures) (c .before .before .is-without-elements .ensures) (c .before .is-without-elements2 .ensures) (c .before .before .before .if3 .left)
     ∙ c .if4 .taken))
 
 returns-5 : tie.Need-returns-5
 returns-5 c =
+    let s = c .before .before .before .before .before .before .before .before .before .before .before .before in
     sym (past-3 (c .before .before .before .before .before .before)
     ∙ passed 9
-    (nine (c .before .before .before .before .before .before .before .before .before .before .before .before .args .book .now) (c .before .before .before .before .before .before .before .before .before .before .before .before .args .category) _ _ _ _ (c .before .before .before .before .before .activity-among .ensures) (c .before .before .before .before .passenger-mass .ensures) (c .before .before .is-unserved .ensures) (c .before .is-unserved2 .ensures) (c .before .before .before .if3 .left)
+    (nine (s .args .book .now) (s .args .category) _ _ _ _ (c .before .before .before .before .before .activity-among .ensures) (c .before .before .before .before .passengers-by-mass .ensures) (c .before .before .is-without-elements .ensures) (c .before .is-without-elements2 .ensures) (c .before .before .before .if3 .left)
     ∙ c .if4 .left))
 
 pub refusal-number-spec : {M : Type 1} → statement M
@@ -88,10 +95,10 @@ refusal-number-spec =
     category-of-requires
     returns-2
     activity-among-requires
-    passenger-mass-requires
+    passengers-by-mass-requires
     add-if3
     returns-3
-    is-unserved-requires
-    is-unserved-requires-2
+    is-without-elements-requires
+    is-without-elements-requires-2
     returns-4
     returns-5)

@@ -31,8 +31,9 @@ slice-aggregate-settle-sides-2 c = sym (length-take-le _ _ (counts (c .before .b
 
 settle-sides-requires : tie.Need-settle-sides-requires
 settle-sides-requires c κs =
-    let whole = length-take-le _ _ (counts (c .before .before .before .before .before) .elements-most) in
-    (c .before .before .before .before .before .pre, ((whole, whole), (zeros-at (elements (c .before .before .before .before .before .args .book .now)) 256, zeros-at (elements (c .before .before .before .before .before .args .book .now)) 256)))
+    let s = c .before .before .before .before .before in
+    let whole = length-take-le _ _ (counts s .elements-most) in
+    (s .pre, ((whole, whole), (zeros-at (elements (s .args .book .now)) 256, zeros-at (elements (s .args .book .now)) 256)))
 
 same-length : tie.Need-same-length
 same-length c = search needs

@@ -23,26 +23,32 @@ settled s = closable (s .args .book .now) (s .args .category) (s .pre .0)
 -- the category, and the length that is left
 inside : (c : tie.After-slice-known6) → (1 ≤ c .before .before .before .before .before .before .before .before .before .before .before .before .before .before .before .before .before .before .before .args .category) × (c .before .before .before .before .before .before .before .before .before .before .before .before .before .before .before .before .before .before .before .args .category ≤ mostCategories) × (bookLength ≤ length (c .before .before .hand-out .last .0))
 inside c =
-    let ws = c .before .before .before .before .before .before .before .before .before .before .before .before .before .before .before .before .before .before .before .args .book .now in
-    let k = settled (c .before .before .before .before .before .before .before .before .before .before .before .before .before .before .before .before .before .before .before) in
+    let s = c .before .before .before .before .before .before .before .before .before .before .before .before .before .before .before .before .before .before .before in
+    let ws = s .args .book .now in
+    let k = settled s in
     let counts = sound-counted ws (k .fine) in
-    let high = between-high 1 (categories ws) (c .before .before .before .before .before .before .before .before .before .before .before .before .before .before .before .before .before .before .before .args .category) (k .numbered) in (
-      between-low 1 (categories ws) (c .before .before .before .before .before .before .before .before .before .before .before .before .before .before .before .before .before .before .before .args .category) (k .numbered),
+    let high = between-high 1 (categories ws) (s .args .category) (k .numbered) in (
+      between-low 1 (categories ws) (s .args .category) (k .numbered),
       omega (arith, high, counts),
       omega (arith, counts, c .before .before .hand-out .kept .0),
     )
 
 set-shares-requires : tie.Need-set-shares-requires
-set-shares-requires c κs = (c .before .before .before .before .before .pre .0, (c .before .before .before .before .before .pre .1 .0 .0, c .before .before .before .before .before .pre .1 .1 .0))
+set-shares-requires c κs =
+    let s = c .before .before .before .before .before in
+    (s .pre .0, (s .pre .1 .0 .0, s .pre .1 .1 .0))
 
 set-shares-requires-2 : tie.Need-set-shares-requires-2
-set-shares-requires-2 c κs = (c .before .before .before .before .before .before .before .before .before .before .pre .0, (c .before .before .before .before .before .before .before .before .before .before .pre .1 .0 .1, c .before .before .before .before .before .before .before .before .before .before .pre .1 .1 .1))
+set-shares-requires-2 c κs =
+    let s = c .before .before .before .before .before .before .before .before .before .before in
+    (s .pre .0, (s .pre .1 .0 .1, s .pre .1 .1 .1))
 
 hand-out-requires : tie.Need-hand-out-requires
 hand-out-requires c κs =
-    let counts = sound-counted (c .before .before .before .before .before .before .before .before .before .before .before .before .before .before .before .before .args .book .now) (settled (c .before .before .before .before .before .before .before .before .before .before .before .before .before .before .before .before) .fine) in
-    let one = ap length (c .before .before .before .before .before .before .before .before .before .before .set-shares .ensures) ∙ list-length (elements (c .before .before .before .before .before .before .before .before .before .before .before .before .before .before .before .before .args .book .now)) _ in
-    let two = ap length (c .before .before .before .before .before .set-shares2 .ensures) ∙ list-length (elements (c .before .before .before .before .before .before .before .before .before .before .before .before .before .before .before .before .args .book .now)) _ in
+    let s = c .before .before .before .before .before .before .before .before .before .before .before .before .before .before .before .before in
+    let counts = sound-counted (s .args .book .now) (settled s .fine) in
+    let one = ap length (c .before .before .before .before .before .before .before .before .before .before .set-shares .ensures) ∙ list-length (elements (s .args .book .now)) _ in
+    let two = ap length (c .before .before .before .before .before .set-shares2 .ensures) ∙ list-length (elements (s .args .book .now)) _ in
     (counts .long, (omega (arith, one, counts), two ∙ sym one))
 
 sub-place : tie.Need-sub-place
@@ -74,11 +80,12 @@ same-length-3 c = search needs
 
 returns : tie.Need-returns
 unfolding closeWith
-returns c = (
-  ap (λ (ws : List ℕ). set ws (4 + 2 * (c .before .before .before .before .before .before .before .before .before .before .before .before .before .before .before .before .before .before .before .args .category - 1) + 1) 1)
-      (sides-written (c .before .before .before .before .before .before .before .before .before .before .before .before .before .before .before .before .before .before .before .args .book .now) (c .before .before .before .before .before .before .before .before .before .before .before .before .before .before .before .before .before .before .before .args .category) (elements (c .before .before .before .before .before .before .before .before .before .before .before .before .before .before .before .before .before .before .before .args .book .now)) (closingShare (c .before .before .before .before .before .before .before .before .before .before .before .before .before .before .before .before .before .before .before .args .book .now) (c .before .before .before .before .before .before .before .before .before .before .before .before .before .before .before .before .before .before .before .args .category)) _ _ _ (c .before .before .before .before .before .before .before .before .before .before .before .before .before .set-shares .ensures) (c .before .before .before .before .before .before .before .before .set-shares2 .ensures) (c .before .before .hand-out .ensures)),
-  (c .before .before .before .before .before .before .before .before .before .before .before .before .before .set-shares .ensures, c .before .before .before .before .before .before .before .before .set-shares2 .ensures),
-)
+returns c =
+    let s = c .before .before .before .before .before .before .before .before .before .before .before .before .before .before .before .before .before .before .before in (
+      ap (λ (ws : List ℕ). set ws (4 + 2 * (s .args .category - 1) + 1) 1)
+          (sides-written (s .args .book .now) (s .args .category) (elements (s .args .book .now)) (closingShare (s .args .book .now) (s .args .category)) _ _ _ (c .before .before .before .before .before .before .before .before .before .before .before .before .before .set-shares .ensures) (c .before .before .before .before .before .before .before .before .set-shares2 .ensures) (c .before .before .hand-out .ensures)),
+      (c .before .before .before .before .before .before .before .before .before .before .before .before .before .set-shares .ensures, c .before .before .before .before .before .before .before .before .set-shares2 .ensures),
+    )
 
 pub settle-sides-spec : {M : Type 1} → statement M
 settle-sides-spec =

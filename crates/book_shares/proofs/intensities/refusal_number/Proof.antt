@@ -11,8 +11,8 @@ use Rattle.apportion.specs.Grounds.{firstOf}
 use Rattle.book_words.specs.Book.{categories}
 use Rattle.book_words.specs.Measures.{between}
 use Rattle.book_words.specs.Soundness.{sound}
-use Rattle.book_shares.specs.Intensities.{intensityRefusal, intensityGrounds, idle}
-use Rattle.apportion.proofs.Grounds.{passed, stopped}
+use Rattle.book_shares.specs.Intensities.{intensityRefusal, intensityGrounds, lacksActivity}
+use Rattle.apportion.proofs.Grounds.{stopped, passed}
 use Rattle.book_words.proofs.Facts.{sound-counted}
 use Rattle.book_words.proofs.Numbered.{was-closed, was-open}
 use Rattle.book_shares.proofs.Results.{ten}
@@ -40,10 +40,12 @@ past-4 c =
     ∙ passed 5 (ap not (was-closed (s .args .book .now) (s .args .category) (c .before .before .category-of .result) (c .before .before .category-of .ensures) (c .before .before .before .before .if1 .left) (c .if3 .left)))
 
 past-5 : (c : tie.Else4) → Past 5 (c .before .before .before .before .before .before .before .before .before)
-past-5 c = past-4 (c .before .before) ∙ passed 9 (sym (c .before .is-idle .ensures) ∙ c .if4 .left)
+past-5 c = past-4 (c .before .before) ∙ passed 9 (sym (c .before .lacks-activity .ensures) ∙ c .if4 .left)
 
-asked : (c : tie.Else4) → (sound (c .before .before .before .before .before .before .before .before .before .args .book .now) ≡ true) × ((between 1 (categories (c .before .before .before .before .before .before .before .before .before .args .book .now)) (c .before .before .before .before .before .before .before .before .before .args .category) ≡ true) × (idle (c .before .before .before .before .before .before .before .before .before .args .book .now) (c .before .before .before .before .before .before .before .before .before .args .category) (c .before .before .before .before .before .before .before .before .before .args .code) ≡ false))
-asked c = (c .before .before .before .before .before .before .before .before .before .pre, (not-false (between 1 (categories (c .before .before .before .before .before .before .before .before .before .args .book .now)) (c .before .before .before .before .before .before .before .before .before .args .category)) (c .before .before .before .before .before .before .if1 .left), sym (c .before .is-idle .ensures) ∙ c .if4 .left))
+asked : (c : tie.Else4) → (sound (c .before .before .before .before .before .before .before .before .before .args .book .now) ≡ true) × ((between 1 (categories (c .before .before .before .before .before .before .before .before .before .args .book .now)) (c .before .before .before .before .before .before .before .before .before .args .category) ≡ true) × (lacksActivity (c .before .before .before .before .before .before .before .before .before .args .book .now) (c .before .before .before .before .before .before .before .before .before .args .category) (c .before .before .before .before .before .before .before .before .before .args .code) ≡ false))
+asked c =
+    let s = c .before .before .before .before .before .before .before .before .before in
+    (s .pre, (not-false (between 1 (categories (s .args .book .now)) (s .args .category)) (c .before .before .before .before .before .before .if1 .left), sym (c .before .lacks-activity .ensures) ∙ c .if4 .left))
 
 shared-slice-read-if1 : tie.Need-shared-slice-read-if1
 shared-slice-read-if1 c = omega (arith, sound-counted (c .before .before .args .book .now) (c .before .before .pre))
@@ -59,14 +61,15 @@ category-of-requires c κs = search needs
 
 returns-3 : tie.Need-returns-3
 returns-3 c =
+    let s = c .before .before .before .before .before .before .before in
     sym (past-3 (c .before .before .before)
-    ∙ stopped 5 _ (ap not (was-open (c .before .before .before .before .before .before .before .args .book .now) (c .before .before .before .before .before .before .before .args .category) (c .before .before .category-of .result) (c .before .before .category-of .ensures) (c .before .before .before .before .if1 .left) (c .if3 .taken))))
+    ∙ stopped 5 _ (ap not (was-open (s .args .book .now) (s .args .category) (c .before .before .category-of .result) (c .before .before .category-of .ensures) (c .before .before .before .before .if1 .left) (c .if3 .taken))))
 
-is-idle-requires : tie.Need-is-idle-requires
-is-idle-requires c κs = search needs
+lacks-activity-requires : tie.Need-lacks-activity-requires
+lacks-activity-requires c κs = search needs
 
 returns-4 : tie.Need-returns-4
-returns-4 c = sym (past-4 (c .before .before) ∙ stopped 9 _ (sym (c .before .is-idle .ensures) ∙ c .if4 .taken))
+returns-4 c = sym (past-4 (c .before .before) ∙ stopped 9 _ (sym (c .before .lacks-activity .ensures) ∙ c .if4 .taken))
 
 result-requires : tie.Need-result-requires
 result-requires c κs = asked c
@@ -75,10 +78,14 @@ result-requires-2 : tie.Need-result-requires-2
 result-requires-2 c κs = asked (c .before)
 
 returns-5 : tie.Need-returns-5
-returns-5 c = sym (past-5 (c .before .before .before) ∙ stopped 10 0 (ten (c .before .before .before .before .before .before .before .before .before .before .before .before .args .book .now) (c .before .before .before .before .before .before .before .before .before .before .before .before .args .category) (c .before .before .before .before .before .before .before .before .before .before .before .before .args .code) _ _ (c .before .before .result .ensures) (c .before .result2 .ensures) ∙ c .if5 .taken))
+returns-5 c =
+    let s = c .before .before .before .before .before .before .before .before .before .before .before .before in
+    sym (past-5 (c .before .before .before) ∙ stopped 10 0 (ten (s .args .book .now) (s .args .category) (s .args .code) _ _ (c .before .before .result .ensures) (c .before .result2 .ensures) ∙ c .if5 .taken))
 
 returns-6 : tie.Need-returns-6
-returns-6 c = sym (past-5 (c .before .before .before) ∙ passed 10 (ten (c .before .before .before .before .before .before .before .before .before .before .before .before .args .book .now) (c .before .before .before .before .before .before .before .before .before .before .before .before .args .category) (c .before .before .before .before .before .before .before .before .before .before .before .before .args .code) _ _ (c .before .before .result .ensures) (c .before .result2 .ensures) ∙ c .if5 .left))
+returns-6 c =
+    let s = c .before .before .before .before .before .before .before .before .before .before .before .before in
+    sym (past-5 (c .before .before .before) ∙ passed 10 (ten (s .args .book .now) (s .args .category) (s .args .code) _ _ (c .before .before .result .ensures) (c .before .result2 .ensures) ∙ c .if5 .left))
 
 pub refusal-number-spec : {M : Type 1} → statement M
 refusal-number-spec =
@@ -89,7 +96,7 @@ refusal-number-spec =
     returns-2
     category-of-requires
     returns-3
-    is-idle-requires
+    lacks-activity-requires
     returns-4
     result-requires
     result-requires-2

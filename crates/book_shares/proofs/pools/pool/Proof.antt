@@ -8,7 +8,6 @@ use Rattle.book_words.specs.Book.{entryAt}
 use Rattle.book_words.specs.Totals.{capped}
 use Rattle.book_shares.specs.Dealing.{sideAt}
 use Rattle.book_shares.specs.Sums.{pooled, pool}
-use Rattle.apportion.proofs.Grounds.{passed}
 use Rattle.book_words.proofs.Adding.{Adding, adding-start, adding-next, adding-done}
 use Rattle.book_words.proofs.Capping.{capped-small}
 use Rattle.book_words.proofs.Facts.{sound-counted}
@@ -30,7 +29,9 @@ loop-holds : tie.Need-loop-holds Inv-loop μ-loop
 loop-holds c = adding-start _ _
 
 add-entry-of : tie.Need-add-entry-of Inv-loop μ-loop
-add-entry-of c = omega (arith, sound-counted (c .before .before .before .before .args .book .now) (c .before .before .before .before .pre))
+add-entry-of c =
+    let s = c .before .before .before .before in
+    omega (arith, sound-counted (s .args .book .now) (s .pre))
 
 entry-of-requires : tie.Need-entry-of-requires Inv-loop μ-loop
 entry-of-requires c κs = search needs
@@ -42,22 +43,26 @@ add-requires : tie.Need-add-requires Inv-loop μ-loop
 add-requires c κs = search needs
 
 add-passed : tie.Need-add-passed Inv-loop μ-loop
-add-passed c = omega (arith, sound-counted (c .before .before .before .before .before .before .before .args .book .now) (c .before .before .before .before .before .before .before .pre))
+add-passed c =
+    let s = c .before .before .before .before .before .before .before in
+    omega (arith, sound-counted (s .args .book .now) (s .pre))
 
 loop-less : tie.Need-loop-less Inv-loop μ-loop
 loop-less c = omega arith
 
 loop-again : tie.Need-loop-again Inv-loop μ-loop
 loop-again c =
-    let e = c .before .before .entry-of .ensures ∙ next-entry (c .before .before .before .before .before .before .before .args .book .now) (c .before .before .before .before .loop .passed) (c .before .before .before .loop-test .taken) in
-    let term = c .before .pooled .ensures ∙ ap (pooled (c .before .before .before .before .before .before .before .args .category) (c .before .before .before .before .before .before .before .args .group) (sideAt (c .before .before .before .before .before .before .before .args .stage))) e in
+    let s = c .before .before .before .before .before .before .before in
+    let e = c .before .before .entry-of .ensures ∙ next-entry (s .args .book .now) (c .before .before .before .before .loop .passed) (c .before .before .before .loop-test .taken) in
+    let term = c .before .pooled .ensures ∙ ap (pooled (s .args .category) (s .args .group) (sideAt (s .args .stage))) e in
     adding-next _ (c .before .before .before .before .loop .inv) (c .before .before .before .loop-test .taken) (c .add .ensures ∙ ap (λ (x : ℕ). capped (c .before .before .before .before .loop .sum + x)) term)
 
 returns : tie.Need-returns Inv-loop μ-loop
 unfolding pool
 returns c =
+    let s = c .before .before .before .before in
     adding-done (c .before .loop .inv) (c .loop-test .left)
-    ∙ capped-small _ (pool-limited (c .before .before .before .before .args .book .now) (c .before .before .before .before .pre) (c .before .before .before .before .args .category) (c .before .before .before .before .args .group) (sideAt (c .before .before .before .before .args .stage)))
+    ∙ capped-small _ (pool-limited (s .args .book .now) (s .pre) (s .args .category) (s .args .group) (sideAt (s .args .stage)))
 
 pub pool-spec : {M : Type 1} → statement M
 pool-spec =

@@ -33,10 +33,11 @@ slice-read-shares c = omega (arith, c .before .before .before .loop .inv .1, c .
 
 add-shares : tie.Need-add-shares Inv-loop μ-loop
 add-shares c =
-    let here : c .before .before .before .loop .place < length (c .before .before .before .before .args .shares .now) = omega (arith, c .before .before .before .loop .inv .1, c .before .before .loop-test .taken) in
-    let old = filled-at (c .before .before .before .loop .place) (λ k. at (c .before .before .before .before .args .shares .now) k + at (c .before .before .before .before .args .parts .now) k) (c .before .before .before .before .args .shares .now) here in
+    let s = c .before .before .before .before in
+    let here : c .before .before .before .loop .place < length (s .args .shares .now) = omega (arith, c .before .before .before .loop .inv .1, c .before .before .loop-test .taken) in
+    let old = filled-at (c .before .before .before .loop .place) (λ k. at (s .args .shares .now) k + at (s .args .parts .now) k) (s .args .shares .now) here in
     let same = ap (λ (l : List ℕ). at l (c .before .before .before .loop .place)) (c .before .before .before .loop .inv .2) in
-    omega (arith, old, same, c .before .before .before .before .pre .1 .0 (c .before .before .before .loop .place), c .before .before .before .before .pre .1 .1 (c .before .before .before .loop .place))
+    omega (arith, old, same, s .pre .1 .0 (c .before .before .before .loop .place), s .pre .1 .1 (c .before .before .before .loop .place))
 
 slice-write-shares : tie.Need-slice-write-shares Inv-loop μ-loop
 slice-write-shares c = search needs
@@ -49,11 +50,12 @@ loop-less c = omega arith
 
 loop-again : tie.Need-loop-again Inv-loop μ-loop
 loop-again c =
-    let f : ℕ → ℕ = λ k. at (c .before .before .before .before .args .shares .now) k + at (c .before .before .before .before .args .parts .now) k in
-    let here : c .before .before .before .loop .place < length (c .before .before .before .before .args .shares .now) = omega (arith, c .before .before .before .loop .inv .1, c .before .before .loop-test .taken) in (
+    let s = c .before .before .before .before in
+    let f : ℕ → ℕ = λ k. at (s .args .shares .now) k + at (s .args .parts .now) k in
+    let here : c .before .before .before .loop .place < length (s .args .shares .now) = omega (arith, c .before .before .before .loop .inv .1, c .before .before .loop-test .taken) in (
       omega arith,
       simp length-set (c .before .before .before .loop .inv .1),
-      rw (c .before .before .before .loop .inv .2, filled-at (c .before .before .before .loop .place) f (c .before .before .before .before .args .shares .now) here) (filled-next (c .before .before .before .loop .place) f (c .before .before .before .before .args .shares .now) here),
+      rw (c .before .before .before .loop .inv .2, filled-at (c .before .before .before .loop .place) f (s .args .shares .now) here) (filled-next (c .before .before .before .loop .place) f (s .args .shares .now) here),
     )
 
 same-length : tie.Need-same-length Inv-loop μ-loop

@@ -13,19 +13,26 @@ array-borrow-prefix-space : tie.Need-array-borrow-prefix-space
 array-borrow-prefix-space c = omega (arith, sound-counted (c .before .before .args .book .now) (c .before .before .pre .0), c .before .before .pre .1 .1 .0)
 
 slice-aggregate-deal-parts : tie.Need-slice-aggregate-deal-parts
-slice-aggregate-deal-parts c = sym (length-take-le _ _ (omega (arith, sound-counted (c .before .before .before .args .book .now) (c .before .before .before .pre .0), c .before .before .before .pre .1 .1 .0)))
+slice-aggregate-deal-parts c =
+    let s = c .before .before .before in
+    sym (length-take-le _ _ (omega (arith, sound-counted (s .args .book .now) (s .pre .0), s .pre .1 .1 .0)))
 
 array-borrow-prefix-parts : tie.Need-array-borrow-prefix-parts
-array-borrow-prefix-parts c = omega (arith, sound-counted (c .before .before .before .args .book .now) (c .before .before .before .pre .0), c .before .before .before .pre .1 .1 .0)
+array-borrow-prefix-parts c =
+    let s = c .before .before .before in
+    omega (arith, sound-counted (s .args .book .now) (s .pre .0), s .pre .1 .1 .0)
 
 slice-aggregate-deal-parts-2 : tie.Need-slice-aggregate-deal-parts-2
-slice-aggregate-deal-parts-2 c = sym (length-take-le _ _ (omega (arith, sound-counted (c .before .before .before .before .args .book .now) (c .before .before .before .before .pre .0), c .before .before .before .before .pre .1 .1 .0)))
+slice-aggregate-deal-parts-2 c =
+    let s = c .before .before .before .before in
+    sym (length-take-le _ _ (omega (arith, sound-counted (s .args .book .now) (s .pre .0), s .pre .1 .1 .0)))
 
 deal-parts-requires : tie.Need-deal-parts-requires
 deal-parts-requires c κs =
-    let long : length (c .before .before .before .before .before .args .shares .now) ≤ 256 = omega (arith, sound-counted (c .before .before .before .before .before .args .book .now) (c .before .before .before .before .before .pre .0), c .before .before .before .before .before .pre .1 .1 .0) in
-    let whole = length-take-le _ _ long ∙ c .before .before .before .before .before .pre .1 .1 .0 in
-    (c .before .before .before .before .before .pre .0, (c .before .before .before .before .before .pre .1 .0, ((whole, whole, c .before .before .before .before .before .pre .1 .1 .0), c .before .before .before .before .before .pre .1 .1 .1)))
+    let s = c .before .before .before .before .before in
+    let long : length (s .args .shares .now) ≤ 256 = omega (arith, sound-counted (s .args .book .now) (s .pre .0), s .pre .1 .1 .0) in
+    let whole = length-take-le _ _ long ∙ s .pre .1 .1 .0 in
+    (s .pre .0, (s .pre .1 .0, ((whole, whole, s .pre .1 .1 .0), s .pre .1 .1 .1)))
 
 same-length : tie.Need-same-length
 same-length c = search needs

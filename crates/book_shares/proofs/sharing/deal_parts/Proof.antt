@@ -15,18 +15,21 @@ use Rattle.book_shares.proofs.sharing.deal_parts.Statement.{statement}
 use Rattle.book_shares.proofs.sharing.deal_parts.Tie as tie
 
 set-weights-requires : tie.Need-set-weights-requires
-set-weights-requires c κs = (c .before .before .before .before .before .pre .0, c .before .before .before .before .before .pre .1 .1 .0 .0)
+set-weights-requires c κs =
+    let s = c .before .before .before .before .before in
+    (s .pre .0, s .pre .1 .1 .0 .0)
 
 divide-requires : tie.Need-divide-requires
 divide-requires c κs = search needs
 
 add-parts-requires : tie.Need-add-parts-requires
 add-parts-requires c κs =
-    let ws = c .before .before .before .before .before .before .before .before .before .before .before .before .before .before .before .args .book .now in
-    let parts = amount-divided ws (c .before .before .before .before .before .before .before .before .before .before .before .before .before .before .before .args .category) (c .before .before .before .before .before .before .before .before .before .before .before .before .before .before .before .args .codes) (c .before .before .before .before .before .before .before .before .before .before .before .before .before .before .before .args .amount) (c .before .before .before .before .before .before .before .before .before .before .before .before .before .before .before .pre .0) (c .before .before .before .before .before .before .before .before .before .before .before .before .before .before .before .pre .1 .0) _ (c .before .before .before .before .before .before .before .before .before .before .before .before .before .before .before .args .parts .now) _ (c .before .before .before .before .before .before .before .before .before .set-weights .ensures) (c .before .before .before .before .before .before .before .before .before .before .before .before .before .before .before .pre .1 .1 .0 .1) (c .before .before .before .before .divide .ensures .1) in
-    let long = shares-length (c .before .before .before .before .before .before .before .before .before .before .before .before .before .before .before .args .amount) (weights ws (c .before .before .before .before .before .before .before .before .before .before .before .before .before .before .before .args .category) (c .before .before .before .before .before .before .before .before .before .before .before .before .before .before .before .args .codes)) ∙ weights-length ws (c .before .before .before .before .before .before .before .before .before .before .before .before .before .before .before .args .category) (c .before .before .before .before .before .before .before .before .before .before .before .before .before .before .before .args .codes) in (
-      ap length parts ∙ long ∙ sym (c .before .before .before .before .before .before .before .before .before .before .before .before .before .before .before .pre .1 .1 .0 .2),
-      (λ k. rw parts (dealt-within ws (c .before .before .before .before .before .before .before .before .before .before .before .before .before .before .before .args .category) (c .before .before .before .before .before .before .before .before .before .before .before .before .before .before .before .args .codes) (c .before .before .before .before .before .before .before .before .before .before .before .before .before .before .before .args .amount) (c .before .before .before .before .before .before .before .before .before .before .before .before .before .before .before .pre .1 .0) k), c .before .before .before .before .before .before .before .before .before .before .before .before .before .before .before .pre .1 .1 .1),
+    let s = c .before .before .before .before .before .before .before .before .before .before .before .before .before .before .before in
+    let ws = s .args .book .now in
+    let parts = amount-divided ws (s .args .category) (s .args .codes) (s .args .amount) (s .pre .0) (s .pre .1 .0) _ (s .args .parts .now) _ (c .before .before .before .before .before .before .before .before .before .set-weights .ensures) (s .pre .1 .1 .0 .1) (c .before .before .before .before .divide .ensures .1) in
+    let long = shares-length (s .args .amount) (weights ws (s .args .category) (s .args .codes)) ∙ weights-length ws (s .args .category) (s .args .codes) in (
+      ap length parts ∙ long ∙ sym (s .pre .1 .1 .0 .2),
+      (λ k. rw parts (dealt-within ws (s .args .category) (s .args .codes) (s .args .amount) (s .pre .1 .0) k), s .pre .1 .1 .1),
     )
 
 same-length : tie.Need-same-length
@@ -41,14 +44,15 @@ same-length-3 c = search needs
 returns : tie.Need-returns
 unfolding partAt
 returns c =
-    let ws = c .before .before .before .before .before .before .before .before .before .before .before .before .before .before .before .before .before .before .args .book .now in
-    let parts = amount-divided ws (c .before .before .before .before .before .before .before .before .before .before .before .before .before .before .before .before .before .before .args .category) (c .before .before .before .before .before .before .before .before .before .before .before .before .before .before .before .before .before .before .args .codes) (c .before .before .before .before .before .before .before .before .before .before .before .before .before .before .before .before .before .before .args .amount) (c .before .before .before .before .before .before .before .before .before .before .before .before .before .before .before .before .before .before .pre .0) (c .before .before .before .before .before .before .before .before .before .before .before .before .before .before .before .before .before .before .pre .1 .0) _ (c .before .before .before .before .before .before .before .before .before .before .before .before .before .before .before .before .before .before .args .parts .now) _ (c .before .before .before .before .before .before .before .before .before .before .before .before .set-weights .ensures) (c .before .before .before .before .before .before .before .before .before .before .before .before .before .before .before .before .before .before .pre .1 .1 .0 .1) (c .before .before .before .before .before .before .before .divide .ensures .1) in (
+    let s = c .before .before .before .before .before .before .before .before .before .before .before .before .before .before .before .before .before .before in
+    let ws = s .args .book .now in
+    let parts = amount-divided ws (s .args .category) (s .args .codes) (s .args .amount) (s .pre .0) (s .pre .1 .0) _ (s .args .parts .now) _ (c .before .before .before .before .before .before .before .before .before .before .before .before .set-weights .ensures) (s .pre .1 .1 .0 .1) (c .before .before .before .before .before .before .before .divide .ensures .1) in (
       c .before .before .before .before .before .before .before .before .before .before .before .before .set-weights .ensures,
       (
         parts,
         c .before .before .add-parts .ensures
-            ∙ ap (λ (n : ℕ). listBelow n (λ k. at (c .before .before .before .before .before .before .before .before .before .before .before .before .before .before .before .before .before .before .args .shares .now) k + at (c .before .before .before .before .before .before .before .divide .last .1 .1 .0) k)) (c .before .before .before .before .before .before .before .before .before .before .before .before .before .before .before .before .before .before .pre .1 .1 .0 .2)
-            ∙ ap (λ (l : List ℕ). listBelow (elements ws) (λ k. at (c .before .before .before .before .before .before .before .before .before .before .before .before .before .before .before .before .before .before .args .shares .now) k + at l k)) parts,
+            ∙ ap (λ (n : ℕ). listBelow n (λ k. at (s .args .shares .now) k + at (c .before .before .before .before .before .before .before .divide .last .1 .1 .0) k)) (s .pre .1 .1 .0 .2)
+            ∙ ap (λ (l : List ℕ). listBelow (elements ws) (λ k. at (s .args .shares .now) k + at l k)) parts,
       ),
     )
 

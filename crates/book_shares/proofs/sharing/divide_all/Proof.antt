@@ -16,8 +16,8 @@ pool-requires c κs = search needs
 activity-among-requires : tie.Need-activity-among-requires
 activity-among-requires c κs = search needs
 
-passenger-mass-requires : tie.Need-passenger-mass-requires
-passenger-mass-requires c κs = search needs
+passengers-by-mass-requires : tie.Need-passengers-by-mass-requires
+passengers-by-mass-requires c κs = search needs
 
 slice-aggregate-divide : tie.Need-slice-aggregate-divide
 slice-aggregate-divide c = search needs
@@ -36,9 +36,10 @@ array-read-t19 c = search needs
 
 returns : tie.Need-returns
 returns c =
+    let s = c .before .before .before .before .before .before .before .before in
     ap (λ (l : List ℕ). record { freight = at l 0; passengers = at l 1 })
-    (all-divided (c .before .before .before .before .before .before .before .before .args .book .now) (c .before .before .before .before .before .before .before .before .args .category) (sideAt (c .before .before .before .before .before .before .before .before .args .stage)) (c .before .before .before .before .before .before .before .before .pre .0) (c .before .before .before .before .before .before .before .before .pre .1) _ _ _ _ _ refl
-    (c .before .before .before .before .before .before .pool .ensures) (c .before .before .before .before .before .activity-among .ensures) (c .before .before .before .before .passenger-mass .ensures) (c .before .divide .ensures .1))
+    (all-divided (s .args .book .now) (s .args .category) (sideAt (s .args .stage)) (s .pre .0) (s .pre .1) _ _ _ _ _ refl
+    (c .before .before .before .before .before .before .pool .ensures) (c .before .before .before .before .before .activity-among .ensures) (c .before .before .before .before .passengers-by-mass .ensures) (c .before .divide .ensures .1))
 
 pub divide-all-spec : {M : Type 1} → statement M
 divide-all-spec =
@@ -46,7 +47,7 @@ divide-all-spec =
     (tie.spec
     pool-requires
     activity-among-requires
-    passenger-mass-requires
+    passengers-by-mass-requires
     slice-aggregate-divide
     slice-aggregate-divide-2
     divide-requires

@@ -20,21 +20,30 @@ settled s = closable (s .args .book .now) (s .args .category) (s .pre .0)
 
 -- what is dealt out
 freight-dealt : (c : tie.After-divide-all) → Dealable (c .before .before .before .args .book .now) (c .before .before .before .args .category) freight (c .divide-all .result .freight)
-freight-dealt c = rw (c .divide-all .ensures) (freight-dealable (c .before .before .before .args .book .now) (c .before .before .before .args .category) (sideAt (c .before .before .before .args .stage)) (settled (c .before .before .before)))
+freight-dealt c =
+    let s = c .before .before .before in
+    rw (c .divide-all .ensures) (freight-dealable (s .args .book .now) (s .args .category) (sideAt (s .args .stage)) (settled s))
 
 passengers-dealt : (c : tie.After-divide-all) → Dealable (c .before .before .before .args .book .now) (c .before .before .before .args .category) passengers (c .divide-all .result .passengers)
-passengers-dealt c = rw (c .divide-all .ensures) (passengers-dealable (c .before .before .before .args .book .now) (c .before .before .before .args .category) (sideAt (c .before .before .before .args .stage)) (settled (c .before .before .before)))
+passengers-dealt c =
+    let s = c .before .before .before in
+    rw (c .divide-all .ensures) (passengers-dealable (s .args .book .now) (s .args .category) (sideAt (s .args .stage)) (settled s))
 
 chilled-dealt : (c : tie.After-pool) → Dealable (c .before .before .before .before .args .book .now) (c .before .before .before .before .args .category) (ofGroup 1) (c .pool .result)
-chilled-dealt c = rw (c .pool .ensures) (chilled-dealable (c .before .before .before .before .args .book .now) (c .before .before .before .before .args .category) (sideAt (c .before .before .before .before .args .stage)) (settled (c .before .before .before .before)))
+chilled-dealt c =
+    let s = c .before .before .before .before in
+    rw (c .pool .ensures) (chilled-dealable (s .args .book .now) (s .args .category) (sideAt (s .args .stage)) (settled s))
 
 frozen-dealt : (c : tie.After-pool2) → Dealable (c .before .before .before .before .before .args .book .now) (c .before .before .before .before .before .args .category) (ofGroup 2) (c .pool2 .result)
-frozen-dealt c = rw (c .pool2 .ensures) (frozen-dealable (c .before .before .before .before .before .args .book .now) (c .before .before .before .before .before .args .category) (sideAt (c .before .before .before .before .before .args .stage)) (settled (c .before .before .before .before .before)))
+frozen-dealt c =
+    let s = c .before .before .before .before .before in
+    rw (c .pool2 .ensures) (frozen-dealable (s .args .book .now) (s .args .category) (sideAt (s .args .stage)) (settled s))
 
 -- how much the shares hold after each
 few-1 : (c : tie.After-slice-known2) (k : ℕ) → at (c .before .before .deal .last .1 .1 .1 .1 .0) k ≤ largest
 few-1 c k =
-    added-within (elements (c .before .before .before .before .before .before .before .before .before .args .book .now)) (c .before .before .before .before .before .before .before .before .before .args .shares .now) _ _ 0 (c .before .before .deal .ensures) (λ j. omega (arith, c .before .before .before .before .before .before .before .before .before .pre .1 .1 j))
+    let s = c .before .before .before .before .before .before .before .before .before in
+    added-within (elements (s .args .book .now)) (s .args .shares .now) _ _ 0 (c .before .before .deal .ensures) (λ j. omega (arith, s .pre .1 .1 j))
     (part-within _ _ _ _ (freight-dealt (c .before .before .before .before .before .before))) k
 
 few-2 : (c : tie.After-slice-known3) (k : ℕ) → at (c .before .before .deal2 .last .1 .1 .1 .1 .0) k ≤ 2 * largest
@@ -57,7 +66,9 @@ pool-requires-2 : tie.Need-pool-requires-2
 pool-requires-2 c κs = settled (c .before .before .before .before) .fine
 
 deal-requires : tie.Need-deal-requires
-deal-requires c κs = (settled (c .before .before .before .before .before .before) .fine, (freight-dealt (c .before .before .before), (c .before .before .before .before .before .before .pre .1 .0, λ k. omega (arith, c .before .before .before .before .before .before .pre .1 .1 k))))
+deal-requires c κs =
+    let s = c .before .before .before .before .before .before in
+    (settled s .fine, (freight-dealt (c .before .before .before), (s .pre .1 .0, λ k. omega (arith, s .pre .1 .1 k))))
 
 deal-requires-2 : tie.Need-deal-requires-2
 deal-requires-2 c κs = (
@@ -87,12 +98,15 @@ deal-requires-4 c κs = (
 )
 
 same-length : tie.Need-same-length
-same-length c = ap length (c .before .before .deal4 .ensures) ∙ list-length (elements (c .before .before .before .before .before .before .before .before .before .before .before .before .before .before .before .before .before .before .before .before .before .args .book .now)) _ ∙ sym (c .before .before .before .before .before .before .before .before .before .before .before .before .before .before .before .before .before .before .before .before .before .pre .1 .0)
+same-length c =
+    let s = c .before .before .before .before .before .before .before .before .before .before .before .before .before .before .before .before .before .before .before .before .before in
+    ap length (c .before .before .deal4 .ensures) ∙ list-length (elements (s .args .book .now)) _ ∙ sym (s .pre .1 .0)
 
 returns : tie.Need-returns
 returns c =
-    added-four (elements (c .before .before .before .before .before .before .before .before .before .before .before .before .before .before .before .before .before .before .before .before .before .args .book .now)) (c .before .before .before .before .before .before .before .before .before .before .before .before .before .before .before .before .before .before .before .before .before .args .shares .now) _ _ _ _ _ _ _ _ (c .before .before .before .before .before .before .before .before .before .before .before .before .before .before .before .before .before .before .before .before .before .pre .1 .1) (c .before .before .before .before .before .before .before .before .before .before .before .before .before .before .deal .ensures) (c .before .before .before .before .before .before .before .before .before .before .deal2 .ensures) (c .before .before .before .before .before .before .deal3 .ensures) (c .before .before .deal4 .ensures)
-    ∙ shares-dealt (c .before .before .before .before .before .before .before .before .before .before .before .before .before .before .before .before .before .before .before .before .before .args .book .now) (c .before .before .before .before .before .before .before .before .before .before .before .before .before .before .before .before .before .before .before .before .before .args .category) (elements (c .before .before .before .before .before .before .before .before .before .before .before .before .before .before .before .before .before .before .before .before .before .args .book .now)) (sideAt (c .before .before .before .before .before .before .before .before .before .before .before .before .before .before .before .before .before .before .before .before .before .args .stage)) _ _ _ (c .before .before .before .before .before .before .before .before .before .before .before .before .before .before .before .before .before .before .divide-all .ensures) (c .before .before .before .before .before .before .before .before .before .before .before .before .before .before .before .before .before .pool .ensures) (c .before .before .before .before .before .before .before .before .before .before .before .before .before .before .before .before .pool2 .ensures)
+    let s = c .before .before .before .before .before .before .before .before .before .before .before .before .before .before .before .before .before .before .before .before .before in
+    added-four (elements (s .args .book .now)) (s .args .shares .now) _ _ _ _ _ _ _ _ (s .pre .1 .1) (c .before .before .before .before .before .before .before .before .before .before .before .before .before .before .deal .ensures) (c .before .before .before .before .before .before .before .before .before .before .deal2 .ensures) (c .before .before .before .before .before .before .deal3 .ensures) (c .before .before .deal4 .ensures)
+    ∙ shares-dealt (s .args .book .now) (s .args .category) (elements (s .args .book .now)) (sideAt (s .args .stage)) _ _ _ (c .before .before .before .before .before .before .before .before .before .before .before .before .before .before .before .before .before .before .divide-all .ensures) (c .before .before .before .before .before .before .before .before .before .before .before .before .before .before .before .before .before .pool .ensures) (c .before .before .before .before .before .before .before .before .before .before .before .before .before .before .before .before .pool2 .ensures)
 
 pub set-shares-spec : {M : Type 1} → statement M
 set-shares-spec =

@@ -7,7 +7,6 @@ use borrow.Author.Needs.{needs}
 use Rattle.book_words.specs.Book.{elementAt}
 use Rattle.book_words.specs.Totals.{capped}
 use Rattle.book_shares.specs.Sums.{among, activityAmong}
-use Rattle.apportion.proofs.Grounds.{passed}
 use Rattle.book_words.proofs.Adding.{Adding, adding-start, adding-next, adding-done}
 use Rattle.book_words.proofs.Capping.{capped-small}
 use Rattle.book_words.proofs.Facts.{sound-counted}
@@ -29,7 +28,9 @@ loop-holds : tie.Need-loop-holds Inv-loop μ-loop
 loop-holds c = adding-start _ _
 
 add-element-of : tie.Need-add-element-of Inv-loop μ-loop
-add-element-of c = omega (arith, sound-counted (c .before .before .before .before .args .book .now) (c .before .before .before .before .pre))
+add-element-of c =
+    let s = c .before .before .before .before in
+    omega (arith, sound-counted (s .args .book .now) (s .pre))
 
 element-of-requires : tie.Need-element-of-requires Inv-loop μ-loop
 element-of-requires c κs = search needs
@@ -41,22 +42,26 @@ add-requires : tie.Need-add-requires Inv-loop μ-loop
 add-requires c κs = search needs
 
 add-passed : tie.Need-add-passed Inv-loop μ-loop
-add-passed c = omega (arith, sound-counted (c .before .before .before .before .before .before .before .args .book .now) (c .before .before .before .before .before .before .before .pre))
+add-passed c =
+    let s = c .before .before .before .before .before .before .before in
+    omega (arith, sound-counted (s .args .book .now) (s .pre))
 
 loop-less : tie.Need-loop-less Inv-loop μ-loop
 loop-less c = omega arith
 
 loop-again : tie.Need-loop-again Inv-loop μ-loop
 loop-again c =
-    let e = c .before .before .element-of .ensures ∙ next-element (c .before .before .before .before .before .before .before .args .book .now) (c .before .before .before .before .loop .passed) (c .before .before .before .loop-test .taken) in
-    let term = c .before .weight .ensures ∙ ap (among (c .before .before .before .before .before .before .before .args .category) (c .before .before .before .before .before .before .before .args .codes) (λ x. x .activity)) e in
+    let s = c .before .before .before .before .before .before .before in
+    let e = c .before .before .element-of .ensures ∙ next-element (s .args .book .now) (c .before .before .before .before .loop .passed) (c .before .before .before .loop-test .taken) in
+    let term = c .before .weight .ensures ∙ ap (among (s .args .category) (s .args .codes) (λ x. x .activity)) e in
     adding-next _ (c .before .before .before .before .loop .inv) (c .before .before .before .loop-test .taken) (c .add .ensures ∙ ap (λ (x : ℕ). capped (c .before .before .before .before .loop .sum + x)) term)
 
 returns : tie.Need-returns Inv-loop μ-loop
 unfolding activityAmong
 returns c =
+    let s = c .before .before .before .before in
     adding-done (c .before .loop .inv) (c .loop-test .left)
-    ∙ capped-small _ (activity-limited (c .before .before .before .before .args .book .now) (c .before .before .before .before .pre) (c .before .before .before .before .args .category) (c .before .before .before .before .args .codes))
+    ∙ capped-small _ (activity-limited (s .args .book .now) (s .pre) (s .args .category) (s .args .codes))
 
 pub activity-among-spec : {M : Type 1} → statement M
 activity-among-spec =

@@ -24,7 +24,9 @@ loop-holds : tie.Need-loop-holds Inv-loop μ-loop
 loop-holds c = (omega arith, refl, refl)
 
 add-element-of : tie.Need-add-element-of Inv-loop μ-loop
-add-element-of c = omega (arith, sound-counted (c .before .before .before .before .args .book .now) (c .before .before .before .before .pre .0), c .before .before .before .before .pre .1)
+add-element-of c =
+    let s = c .before .before .before .before in
+    omega (arith, sound-counted (s .args .book .now) (s .pre .0), s .pre .1)
 
 element-of-requires : tie.Need-element-of-requires Inv-loop μ-loop
 element-of-requires c κs = search needs
@@ -33,26 +35,31 @@ weight-requires : tie.Need-weight-requires Inv-loop μ-loop
 weight-requires c κs = search needs
 
 mul-weights : tie.Need-mul-weights Inv-loop μ-loop
-mul-weights c = omega (arith, sound-counted (c .before .before .before .before .before .before .args .book .now) (c .before .before .before .before .before .before .pre .0), c .before .before .before .before .before .before .pre .1)
+mul-weights c =
+    let s = c .before .before .before .before .before .before in
+    omega (arith, sound-counted (s .args .book .now) (s .pre .0), s .pre .1)
 
 slice-write-weights : tie.Need-slice-write-weights Inv-loop μ-loop
 slice-write-weights c = search needs
 
 add-place : tie.Need-add-place Inv-loop μ-loop
-add-place c = omega (arith, sound-counted (c .before .before .before .before .before .before .args .book .now) (c .before .before .before .before .before .before .pre .0), c .before .before .before .before .before .before .pre .1)
+add-place c =
+    let s = c .before .before .before .before .before .before in
+    omega (arith, sound-counted (s .args .book .now) (s .pre .0), s .pre .1)
 
 loop-less : tie.Need-loop-less Inv-loop μ-loop
 loop-less c = omega arith
 
 loop-again : tie.Need-loop-again Inv-loop μ-loop
 loop-again c =
-    let here : c .before .before .before .loop .place < length (c .before .before .before .before .before .before .args .weights .now) = omega (arith, c .before .before .before .loop .inv .1, c .before .before .loop-test .taken) in
-    let f : ℕ → ℕ = λ p. among (c .before .before .before .before .before .before .args .category) (c .before .before .before .before .before .before .args .codes) (λ e. e .activity) (elementAt (c .before .before .before .before .before .before .args .book .now) p) in
-    let e = c .before .element-of .ensures ∙ next-element (c .before .before .before .before .before .before .args .book .now) (c .before .before .before .loop .place) (omega (arith, here, c .before .before .before .before .before .before .pre .1)) in
-    let term = c .weight .ensures ∙ ap (among (c .before .before .before .before .before .before .args .category) (c .before .before .before .before .before .before .args .codes) (λ x. x .activity)) e in (
+    let s = c .before .before .before .before .before .before in
+    let here : c .before .before .before .loop .place < length (s .args .weights .now) = omega (arith, c .before .before .before .loop .inv .1, c .before .before .loop-test .taken) in
+    let f : ℕ → ℕ = λ p. among (s .args .category) (s .args .codes) (λ e. e .activity) (elementAt (s .args .book .now) p) in
+    let e = c .before .element-of .ensures ∙ next-element (s .args .book .now) (c .before .before .before .loop .place) (omega (arith, here, s .pre .1)) in
+    let term = c .weight .ensures ∙ ap (among (s .args .category) (s .args .codes) (λ x. x .activity)) e in (
       omega arith,
       simp length-set (c .before .before .before .loop .inv .1),
-      rw (c .before .before .before .loop .inv .2, term) (filled-next (c .before .before .before .loop .place) f (c .before .before .before .before .before .before .args .weights .now) here),
+      rw (c .before .before .before .loop .inv .2, term) (filled-next (c .before .before .before .loop .place) f (s .args .weights .now) here),
     )
 
 same-length : tie.Need-same-length Inv-loop μ-loop
@@ -61,8 +68,9 @@ same-length c = c .before .loop .inv .1
 returns : tie.Need-returns Inv-loop μ-loop
 unfolding weights
 returns c =
-    let f : ℕ → ℕ = λ p. among (c .before .before .before .before .args .category) (c .before .before .before .before .args .codes) (λ e. e .activity) (elementAt (c .before .before .before .before .args .book .now) p) in
-    c .before .loop .inv .2 ∙ filled-whole (c .before .loop .place) (elements (c .before .before .before .before .args .book .now)) f (c .before .before .before .before .args .weights .now) (omega (arith, c .before .loop .inv .0, c .before .loop .inv .1, c .loop-test .left, c .before .before .before .before .pre .1)) (c .before .before .before .before .pre .1)
+    let s = c .before .before .before .before in
+    let f : ℕ → ℕ = λ p. among (s .args .category) (s .args .codes) (λ e. e .activity) (elementAt (s .args .book .now) p) in
+    c .before .loop .inv .2 ∙ filled-whole (c .before .loop .place) (elements (s .args .book .now)) f (s .args .weights .now) (omega (arith, c .before .loop .inv .0, c .before .loop .inv .1, c .loop-test .left, s .pre .1)) (s .pre .1)
 
 pub set-weights-spec : {M : Type 1} → statement M
 set-weights-spec =

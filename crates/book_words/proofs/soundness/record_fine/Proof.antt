@@ -4,7 +4,6 @@ use mathlib.Core.Path.{_≡_, refl, _∙_}
 use Prim.Native.Nat.{ℕ, zero, suc}
 use native.Mathlib.Omega.{arith}
 use borrow.Author.Needs.{needs}
-use Rattle.apportion.specs.Places.{at}
 use Rattle.book_words.specs.Book.{categories}
 use Rattle.book_words.specs.Parts.{countIn, recordFine}
 use Rattle.book_words.specs.Soundness.{sharesFine}

@@ -6,7 +6,6 @@ use Prim.Native.Nat.{_-_, _≤_, _<_}
 use native.Mathlib.Omega.{arith}
 use borrow.Author.Needs.{needs}
 use borrow.Author.Tests.{not-false, not-true}
-use Rattle.apportion.specs.Places.{at}
 use Rattle.book_words.specs.Parts.{countIn, recordFine}
 use Rattle.book_words.specs.Soundness.{allBelow}
 use Rattle.book_words.proofs.Every.{every-next, every-not}

@@ -4,7 +4,6 @@ use mathlib.Core.Path.{_≡_, refl, _∙_, ap}
 use Prim.Native.Nat.{_-_, _+_}
 use native.Mathlib.Omega.{arith}
 use borrow.Author.Needs.{needs}
-use Rattle.apportion.specs.Places.{at}
 use Rattle.book_words.specs.declared.records.Entry.{Entry}
 use Rattle.book_words.specs.declared.totals.Amounts.{Amounts}
 use Rattle.book_words.specs.Book.{entryAt, entries}

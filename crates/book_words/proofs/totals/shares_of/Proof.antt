@@ -6,7 +6,6 @@ use Prim.Native.Nat.{_-_, _+_}
 use native.Mathlib.Omega.{arith}
 use lib.Dec.{eqb}
 use borrow.Author.Needs.{needs}
-use Rattle.apportion.specs.Places.{at}
 use Rattle.book_words.specs.declared.records.Element.{Element}
 use Rattle.book_words.specs.declared.totals.Amounts.{Amounts}
 use Rattle.book_words.specs.Book.{elementAt, elements}

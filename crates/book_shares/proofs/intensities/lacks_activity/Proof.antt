@@ -1,8 +1,8 @@
--- `book_shares::intensities::is_idle` meets its contract: the sums are those of the definition. Assumes nothing.
+-- `book_shares::intensities::lacks_activity` meets its contract: the sums are those of the definition. Assumes nothing.
 use borrow.Author.Needs.{needs}
 use borrow.Author.Tests.{eq-eqb, ne-eqb}
-use Rattle.book_shares.proofs.intensities.is_idle.Statement.{statement}
-use Rattle.book_shares.proofs.intensities.is_idle.Tie as tie
+use Rattle.book_shares.proofs.intensities.lacks_activity.Statement.{statement}
+use Rattle.book_shares.proofs.intensities.lacks_activity.Tie as tie
 
 activity-among-requires : tie.Need-activity-among-requires
 activity-among-requires c κs = search needs
@@ -19,8 +19,8 @@ activity-among-requires-3 c κs = search needs
 returns-2 : tie.Need-returns-2
 returns-2 c = rw (c .before .activity-among2 .ensures, c .activity-among3 .ensures, ne-eqb _ 100 (c .before .before .if1 .left))
 
-pub is-idle-spec : {M : Type 1} → statement M
-is-idle-spec =
+pub lacks-activity-spec : {M : Type 1} → statement M
+lacks-activity-spec =
     tie.close
     (tie.spec
     activity-among-requires

@@ -1,4 +1,4 @@
--- `book_shares::weights::passenger_mass` meets its contract: up to an element the sum is that of the definition, and all of
+-- `book_shares::weights::passengers_by_mass` meets its contract: up to an element the sum is that of the definition, and all of
 -- it is within 10^17. Assumes nothing.
 use mathlib.Core.Path.{_∙_, ap}
 use Prim.Native.Nat.{_*_, _-_, ℕ, _+_}
@@ -7,15 +7,14 @@ use borrow.Author.Needs.{needs}
 use Rattle.book_words.specs.Book.{elementAt}
 use Rattle.book_words.specs.Totals.{capped}
 use Rattle.book_words.specs.declared.records.Element.{Element}
-use Rattle.book_shares.specs.Sums.{among, passengers, passengerMass}
-use Rattle.apportion.proofs.Grounds.{passed}
+use Rattle.book_shares.specs.Sums.{among, passengers, passengersByMass}
 use Rattle.book_words.proofs.Adding.{Adding, adding-start, adding-next, adding-done}
 use Rattle.book_words.proofs.Capping.{capped-more, capped-small}
 use Rattle.book_words.proofs.Facts.{sound-counted}
 use Rattle.book_words.proofs.Numbered.{next-element}
 use Rattle.book_shares.proofs.Bounds.{served-limited}
-use Rattle.book_shares.proofs.weights.passenger_mass.Statement.{statement}
-use Rattle.book_shares.proofs.weights.passenger_mass.Tie as tie
+use Rattle.book_shares.proofs.weights.passengers_by_mass.Statement.{statement}
+use Rattle.book_shares.proofs.weights.passengers_by_mass.Tie as tie
 
 abbrev Inv-loop : tie.InvT-loop
 Inv-loop book category count sum₀ passed₀ sum passed = Adding count passed sum (λ p. among category passengers (λ e. e .amount * 100 * e .distance) (elementAt book p))
@@ -30,39 +29,45 @@ loop-holds : tie.Need-loop-holds Inv-loop μ-loop
 loop-holds c = adding-start _ _
 
 add-element-of : tie.Need-add-element-of Inv-loop μ-loop
-add-element-of c = omega (arith, sound-counted (c .before .before .before .before .args .book .now) (c .before .before .before .before .pre))
+add-element-of c =
+    let s = c .before .before .before .before in
+    omega (arith, sound-counted (s .args .book .now) (s .pre))
 
 element-of-requires : tie.Need-element-of-requires Inv-loop μ-loop
 element-of-requires c κs = search needs
 
-mass-requires : tie.Need-mass-requires Inv-loop μ-loop
-mass-requires c κs = search needs
+by-mass-requires : tie.Need-by-mass-requires Inv-loop μ-loop
+by-mass-requires c κs = search needs
 
 add-requires : tie.Need-add-requires Inv-loop μ-loop
 add-requires c κs = search needs
 
 add-passed : tie.Need-add-passed Inv-loop μ-loop
-add-passed c = omega (arith, sound-counted (c .before .before .before .before .before .before .before .args .book .now) (c .before .before .before .before .before .before .before .pre))
+add-passed c =
+    let s = c .before .before .before .before .before .before .before in
+    omega (arith, sound-counted (s .args .book .now) (s .pre))
 
 loop-less : tie.Need-loop-less Inv-loop μ-loop
 loop-less c = omega arith
 
 loop-again : tie.Need-loop-again Inv-loop μ-loop
 loop-again c =
-    let measure : Element → ℕ = among (c .before .before .before .before .before .before .before .args .category) passengers (λ x. x .amount * 100 * x .distance) in
-    let e = c .before .before .element-of .ensures ∙ next-element (c .before .before .before .before .before .before .before .args .book .now) (c .before .before .before .before .loop .passed) (c .before .before .before .loop-test .taken) in
-    let term = c .before .mass .ensures ∙ ap (λ (x : Element). capped (measure x)) e in
+    let s = c .before .before .before .before .before .before .before in
+    let measure : Element → ℕ = among (s .args .category) passengers (λ x. x .amount * 100 * x .distance) in
+    let e = c .before .before .element-of .ensures ∙ next-element (s .args .book .now) (c .before .before .before .before .loop .passed) (c .before .before .before .loop-test .taken) in
+    let term = c .before .by-mass .ensures ∙ ap (λ (x : Element). capped (measure x)) e in
     adding-next _ (c .before .before .before .before .loop .inv) (c .before .before .before .loop-test .taken)
-    (c .add .ensures ∙ ap (λ (x : ℕ). capped (c .before .before .before .before .loop .sum + x)) term ∙ capped-more (c .before .before .before .before .loop .sum) (measure (elementAt (c .before .before .before .before .before .before .before .args .book .now) (c .before .before .before .before .loop .passed))))
+    (c .add .ensures ∙ ap (λ (x : ℕ). capped (c .before .before .before .before .loop .sum + x)) term ∙ capped-more (c .before .before .before .before .loop .sum) (measure (elementAt (s .args .book .now) (c .before .before .before .before .loop .passed))))
 
 returns : tie.Need-returns Inv-loop μ-loop
-unfolding passengerMass
+unfolding passengersByMass
 returns c =
+    let s = c .before .before .before .before in
     adding-done (c .before .loop .inv) (c .loop-test .left)
-    ∙ capped-small _ (omega (arith, served-limited (c .before .before .before .before .args .book .now) (c .before .before .before .before .pre) (c .before .before .before .before .args .category)))
+    ∙ capped-small _ (omega (arith, served-limited (s .args .book .now) (s .pre) (s .args .category)))
 
-pub passenger-mass-spec : {M : Type 1} → statement M
-passenger-mass-spec =
+pub passengers-by-mass-spec : {M : Type 1} → statement M
+passengers-by-mass-spec =
     tie.close
     (tie.spec
     Inv-loop
@@ -71,7 +76,7 @@ passenger-mass-spec =
     loop-holds
     add-element-of
     element-of-requires
-    mass-requires
+    by-mass-requires
     add-requires
     add-passed
     loop-less

@@ -1,10 +1,10 @@
--- `book::measuring::intensity` meets its contract: ground 1, and the call on a sound book. Assumes nothing.
+-- `book::intensities::intensity` meets its contract: ground 1, and the call on a sound book. Assumes nothing.
 use mathlib.Core.Path.{sym, _∙_}
 use borrow.Author.Needs.{needs}
 use borrow.Author.Tests.{not-true, not-false}
 use Rattle.book_shares.specs.Intensities.{intensityReply, intensityRefusal}
-use Rattle.book.proofs.measuring.intensity.Statement.{statement}
-use Rattle.book.proofs.measuring.intensity.Tie as tie
+use Rattle.book.proofs.intensities.intensity.Statement.{statement}
+use Rattle.book.proofs.intensities.intensity.Tie as tie
 
 is-sound-requires : tie.Need-is-sound-requires
 is-sound-requires c κs = search needs
