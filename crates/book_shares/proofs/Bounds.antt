@@ -5,19 +5,20 @@ use mathlib.Core.Path.{_≡_, refl}
 use Prim.Native.Nat.{ℕ, _≤_, _<_, _*_, _+_, zero, suc}
 use native.Mathlib.Nat.{le-trans}
 use native.Mathlib.Omega.{arith}
-use lib.Dec.{eqb, leb}
+use lib.Dec.{eqb}
 use borrow.Author.Tests.{leb-true, lt-leb}
 use Rattle.apportion.specs.Dividing.{largest}
 use Rattle.book_words.specs.Book.{elements, elementAt, entries, entryAt}
-use Rattle.book_words.specs.Measures.{massActivity, between, isFreight, byMass}
+use Rattle.book_words.specs.Measures.{massActivity, between, isFreight, byMass, isPassenger}
 use Rattle.book_words.specs.Soundness.{sound}
 use Rattle.book_words.specs.Totals.{Side, allUnstruck, unstruck, activities, mostActivity, unstruckOf}
 use Rattle.book_words.specs.declared.records.Element.{Element}
 use Rattle.book_words.specs.declared.records.Entry.{Entry}
-use Rattle.book_shares.specs.declared.weights.Codes.{Codes}
-use Rattle.book_shares.specs.Sums.{pool, pooled, activityAmong, among, freight, passengersByMass, passengers, goesTo, sumAmong}
+use Rattle.book_shares.specs.declared.weights.Takers.{Takers}
+use Rattle.book_shares.specs.declared.weights.Takers.the-variants.{Freight, Passengers}
+use Rattle.book_shares.specs.Sums.{pool, pooled, activityAmong, among, passengersByMass, goesTo, sumAmong, takes}
 use Rattle.apportion.proofs.Sums.{sum-le, sum-mul, sum-add, sum-cong}
-use Rattle.book_words.proofs.Booleans.{and-false, cond-most}
+use Rattle.book_words.proofs.Booleans.{cond-most}
 use Rattle.book_words.proofs.Ranges.{between-low}
 use Rattle.book_words.proofs.Wholes.{Whole, sound-whole}
 use Rattle.book_shares.proofs.Members.{Measured, fine-measured, tenfold, at-least-mass, entry-grouped}
@@ -43,22 +44,22 @@ module _ (ws : List ℕ) (fine : sound ws ≡ true) where
               (λ p i. le-trans (cond-most (eqb (entryAt ws p .category) category) _) (cond-most (eqb (entryAt ws p .group) group) _)),
         )
 
-    pub activity-limited : (codes : Codes) → activityAmong ws category codes ≤ largest
+    pub activity-limited : (takers : Takers) → activityAmong ws category takers ≤ largest
     unfolding activityAmong activities
-    activity-limited codes =
+    activity-limited takers =
         let most =
         sum-le (elements ws)
-        (λ p. among category codes (λ e. e .activity) (elementAt ws p))
+        (λ p. among category takers (λ e. e .activity) (elementAt ws p))
         (λ p. 10 * massActivity (elementAt ws p))
-        (λ p h. le-trans (cond-most (goesTo category codes (elementAt ws p)) _) (tenfold (elementAt ws p) (at-place p h))) in
+        (λ p h. le-trans (cond-most (goesTo category takers (elementAt ws p)) _) (tenfold (elementAt ws p) (at-place p h))) in
         omega (arith, most, sum-mul (elements ws) 10 (λ p. massActivity (elementAt ws p)), whole .active)
 
     -- F + P is part of the activity of ground 10
-    pub served-limited : activityAmong ws category freight + passengersByMass ws category ≤ mostActivity
+    pub served-limited : activityAmong ws category Freight + passengersByMass ws category ≤ mostActivity
     unfolding activityAmong passengersByMass activities massActivity
     served-limited =
-        let f : ℕ → ℕ = λ p. among category freight (λ e. e .activity) (elementAt ws p) in
-        let g : ℕ → ℕ = λ p. among category passengers byMass (elementAt ws p) in
+        let f : ℕ → ℕ = λ p. among category Freight (λ e. e .activity) (elementAt ws p) in
+        let g : ℕ → ℕ = λ p. among category Passengers byMass (elementAt ws p) in
         omega (
           arith,
           sum-add (elements ws) f g,
@@ -66,30 +67,28 @@ module _ (ws : List ℕ) (fine : sound ws ≡ true) where
           whole .active,
         )
       where
-        one : (e : Element) → among category freight (λ x. x .activity) e + among category passengers byMass e ≤ massActivity e
+        one : (e : Element) → among category Freight (λ x. x .activity) e + among category Passengers byMass e ≤ massActivity e
         one e = go (eqb (e .category) category) (isFreight (e .code)) refl
           where
             go : (t f : Bool) → isFreight (e .code) ≡ f
-                → cond (t && between 0 2 (e .code)) (e .activity) 0 + cond (t && between 100 1000 (e .code)) (byMass e) 0 ≤ cond f (e .activity) (byMass e)
+                → cond (t && f) (e .activity) 0 + cond (t && isPassenger (e .code)) (byMass e) 0 ≤ cond f (e .activity) (byMass e)
             go false f p = omega arith
             go true true p =
                 let low = leb-true (e .code) 2 p in
-                rw (lt-leb 100 (e .code) (omega arith)) (omega (arith, cond-most (between 0 2 (e .code)) (e .activity)))
-            go true false p =
-                let none : between 0 2 (e .code) ≡ false = and-false (leb 0 (e .code)) (leb (e .code) 2) p in
-                rw none (omega (arith, cond-most (between 100 1000 (e .code)) (byMass e)))
+                rw (lt-leb 100 (e .code) (omega arith)) (omega arith)
+            go true false p = omega (arith, cond-most (isPassenger (e .code)) (byMass e))
 
-    -- a sum over elements with these codes that each measure no more by one measure than by another
-    among-le : (codes : Codes) (f g : Element → ℕ) → ((e : Element) → Measured e → between (codes .first) (codes .last) (e .code) ≡ true → f e ≤ g e)
-        → sumAmong ws category codes f ≤ sumAmong ws category codes g
-    among-le codes f g less =
-        sum-le (elements ws) (λ p. among category codes f (elementAt ws p)) (λ p. among category codes g (elementAt ws p))
+    -- a sum over elements that each measure no more by one measure than by another
+    among-le : (takers : Takers) (f g : Element → ℕ) → ((e : Element) → Measured e → takes takers (e .code) ≡ true → f e ≤ g e)
+        → sumAmong ws category takers f ≤ sumAmong ws category takers g
+    among-le takers f g less =
+        sum-le (elements ws) (λ p. among category takers f (elementAt ws p)) (λ p. among category takers g (elementAt ws p))
         (λ p h. one (elementAt ws p) (at-place p h))
       where
-        one : (e : Element) → Measured e → among category codes f e ≤ among category codes g e
-        one e m = go (eqb (e .category) category) (between (codes .first) (codes .last) (e .code)) refl
+        one : (e : Element) → Measured e → among category takers f e ≤ among category takers g e
+        one e m = go (eqb (e .category) category) (takes takers (e .code)) refl
           where
-            go : (t b : Bool) → between (codes .first) (codes .last) (e .code) ≡ b → cond (t && b) (f e) 0 ≤ cond (t && b) (g e) 0
+            go : (t b : Bool) → takes takers (e .code) ≡ b → cond (t && b) (f e) 0 ≤ cond (t && b) (g e) 0
             go false b p = omega arith
             go true false p = omega arith
             go true true p = less e m p
@@ -99,19 +98,19 @@ module _ (ws : List ℕ) (fine : sound ws ≡ true) where
     above e h = lt-leb (e .code) 2 (omega (arith, between-low 100 1000 (e .code) h))
 
     -- C is at least P, and at most ten times P
-    pub mass-least : passengersByMass ws category ≤ activityAmong ws category passengers
+    pub mass-least : passengersByMass ws category ≤ activityAmong ws category Passengers
     unfolding activityAmong passengersByMass
-    mass-least = among-le passengers byMass (λ e. e .activity) (λ e m h. at-least-mass e m (above e h))
+    mass-least = among-le Passengers byMass (λ e. e .activity) (λ e m h. at-least-mass e m (above e h))
 
-    pub mass-tenth : activityAmong ws category passengers ≤ 10 * passengersByMass ws category
+    pub mass-tenth : activityAmong ws category Passengers ≤ 10 * passengersByMass ws category
     unfolding activityAmong passengersByMass massActivity
     mass-tenth =
-        let g : ℕ → ℕ = λ p. among category passengers byMass (elementAt ws p) in
+        let g : ℕ → ℕ = λ p. among category Passengers byMass (elementAt ws p) in
         omega (
           arith,
-          among-le passengers (λ e. e .activity) (λ e. 10 * byMass e) (λ e m h. rw (above e h) at (tenfold e m)),
-          sum-cong (elements ws) (λ p. among category passengers (λ e. 10 * byMass e) (elementAt ws p)) (λ p. 10 * g p)
-              (λ p h. times (goesTo category passengers (elementAt ws p)) (byMass (elementAt ws p))),
+          among-le Passengers (λ e. e .activity) (λ e. 10 * byMass e) (λ e m h. rw (above e h) at (tenfold e m)),
+          sum-cong (elements ws) (λ p. among category Passengers (λ e. 10 * byMass e) (elementAt ws p)) (λ p. 10 * g p)
+              (λ p h. times (goesTo category Passengers (elementAt ws p)) (byMass (elementAt ws p))),
           sum-mul (elements ws) 10 g,
         )
       where

@@ -14,11 +14,12 @@ use Rattle.book_words.specs.Book.{categories, isClosed, unnumbered}
 use Rattle.book_words.specs.Measures.{between}
 use Rattle.book_words.specs.Soundness.{sound}
 use Rattle.book_words.specs.Totals.{Side, operation, provision}
-use Rattle.book_shares.specs.declared.weights.Codes.{Codes}
+use Rattle.book_shares.specs.declared.weights.Takers.{Takers}
+use Rattle.book_shares.specs.declared.weights.Takers.the-variants.{Group, Freight, Passengers}
 use Rattle.book_shares.specs.Closing.{poolWithoutElements, closeRefusal, nothingToDivideBy}
 use Rattle.book_shares.specs.Dealing.{ToDivideBy, Dealable}
 use Rattle.book_shares.specs.Shares.{weights, freightPart, dividedAll, passengerPart}
-use Rattle.book_shares.specs.Sums.{activityAmong, freight, passengersByMass, pool, passengers, ofGroup}
+use Rattle.book_shares.specs.Sums.{activityAmong, passengersByMass, pool}
 use Rattle.apportion.proofs.Grounds.{first-none, or-none}
 use Rattle.apportion.proofs.Laws.{share-of-zero}
 use Rattle.book_words.proofs.Ranges.{above-zero}
@@ -50,33 +51,33 @@ module _ (ws : List ℕ) (category : ℕ) where
         fine = not-false (sound ws) (one .0);
         numbered = not-false (between 1 (categories ws) category) (two .0);
         unclosed = four .0;
-        served = above-zero (activityAmong ws category freight + passengersByMass ws category) (b .0);
+        served = above-zero (activityAmong ws category Freight + passengersByMass ws category) (b .0);
         chilled-served = b .1;
         frozen-served = a .1;
       }
 
   -- elements with an activity can take any amount
-  taken-up : (codes : Codes) (amount : ℕ) → 0 < activityAmong ws category codes → Divisible amount (weights ws category codes)
-  taken-up codes amount some = inl (omega (arith, weights-sum ws category codes))
+  taken-up : (takers : Takers) (amount : ℕ) → 0 < activityAmong ws category takers → Divisible amount (weights ws category takers)
+  taken-up takers amount some = inl (omega (arith, weights-sum ws category takers))
 
   -- A can be divided by F and P
-  pub all-divisible : ToDivideBy ws category → (amount : ℕ) → Divisible amount (activityAmong ws category freight ∷ passengersByMass ws category ∷ [])
-  all-divisible served amount = inl (omega (arith, sum-two (activityAmong ws category freight ∷ passengersByMass ws category ∷ []) refl))
+  pub all-divisible : ToDivideBy ws category → (amount : ℕ) → Divisible amount (activityAmong ws category Freight ∷ passengersByMass ws category ∷ [])
+  all-divisible served amount = inl (omega (arith, sum-two (activityAmong ws category Freight ∷ passengersByMass ws category ∷ []) refl))
 
   module _ (side : Side) where
-    -- the part of A at place k (0 freight, 1 passengers) goes to the elements with these codes: where there are none, its weight is 0
-    part-divisible : ToDivideBy ws category → (k : ℕ) (codes : Codes)
-        → (at (activityAmong ws category freight ∷ passengersByMass ws category ∷ []) k ≡ 0) ⊎ (0 < activityAmong ws category codes)
-        → Divisible (at (dividedAll ws category side) k) (weights ws category codes)
+    -- the part of A at place k (0 freight, 1 passengers) goes to these elements: where there are none, its weight is 0
+    part-divisible : ToDivideBy ws category → (k : ℕ) (takers : Takers)
+        → (at (activityAmong ws category Freight ∷ passengersByMass ws category ∷ []) k ≡ 0) ⊎ (0 < activityAmong ws category takers)
+        → Divisible (at (dividedAll ws category side) k) (weights ws category takers)
     unfolding dividedAll
-    part-divisible served k codes =
+    part-divisible served k takers =
         ⊎-elim
-        (λ (none : at (activityAmong ws category freight ∷ passengersByMass ws category ∷ []) k ≡ 0).
-        inr (share-of-zero (pool ws category 0 side) (activityAmong ws category freight ∷ passengersByMass ws category ∷ []) (all-divisible served (pool ws category 0 side)) k none))
-        (λ (some : 0 < activityAmong ws category codes). taken-up codes (at (dividedAll ws category side) k) some)
+        (λ (none : at (activityAmong ws category Freight ∷ passengersByMass ws category ∷ []) k ≡ 0).
+        inr (share-of-zero (pool ws category 0 side) (activityAmong ws category Freight ∷ passengersByMass ws category ∷ []) (all-divisible served (pool ws category 0 side)) k none))
+        (λ (some : 0 < activityAmong ws category takers). taken-up takers (at (dividedAll ws category side) k) some)
 
     -- there are passengers with an activity where P is above 0
-    some-passengers : sound ws ≡ true → (passengersByMass ws category ≡ 0) ⊎ (0 < activityAmong ws category passengers)
+    some-passengers : sound ws ≡ true → (passengersByMass ws category ≡ 0) ⊎ (0 < activityAmong ws category Passengers)
     some-passengers fine =
         ⊎-elim
         (λ (none : passengersByMass ws category ≡ 0). inl none)
@@ -84,12 +85,12 @@ module _ (ws : List ℕ) (category : ℕ) where
         (eq-zero-or-pos (passengersByMass ws category))
 
     -- a group without elements has nothing to deal out
-    group-divisible : (group : ℕ) → poolWithoutElements ws category group ≡ false → Divisible (pool ws category group side) (weights ws category (ofGroup group))
+    group-divisible : (group : ℕ) → poolWithoutElements ws category group ≡ false → Divisible (pool ws category group side) (weights ws category (Group group))
     group-divisible group h =
         ⊎-elim
-        (λ (none : activityAmong ws category (ofGroup group) ≡ 0). inr (nothing side (empty (rw (eq-eqb (activityAmong ws category (ofGroup group)) 0 none, and-true) at h))))
-        (λ (some : 0 < activityAmong ws category (ofGroup group)). taken-up (ofGroup group) (pool ws category group side) some)
-        (eq-zero-or-pos (activityAmong ws category (ofGroup group)))
+        (λ (none : activityAmong ws category (Group group) ≡ 0). inr (nothing side (empty (rw (eq-eqb (activityAmong ws category (Group group)) 0 none, and-true) at h))))
+        (λ (some : 0 < activityAmong ws category (Group group)). taken-up (Group group) (pool ws category group side) some)
+        (eq-zero-or-pos (activityAmong ws category (Group group)))
       where
         empty : ltb 0 (pool ws category group operation) || ltb 0 (pool ws category group provision) ≡ false → (pool ws category group operation ≡ 0) × (pool ws category group provision ≡ 0)
         empty e =
@@ -106,47 +107,47 @@ module _ (ws : List ℕ) (category : ℕ) where
     handed k =
         record {
           served = k .served;
-          freight-divisible = part-divisible (k .served) 0 freight (eq-zero-or-pos (activityAmong ws category freight));
-          passengers-divisible = part-divisible (k .served) 1 passengers (some-passengers (k .fine));
+          freight-divisible = part-divisible (k .served) 0 Freight (eq-zero-or-pos (activityAmong ws category Freight));
+          passengers-divisible = part-divisible (k .served) 1 Passengers (some-passengers (k .fine));
           chilled-divisible = group-divisible 1 (k .chilled-served);
           frozen-divisible = group-divisible 2 (k .frozen-served);
         }
 
     -- the four amounts that are dealt out
-    pub freight-dealable : Closable → Dealable ws category freight (freightPart ws category side)
+    pub freight-dealable : Closable → Dealable ws category Freight (freightPart ws category side)
     freight-dealable k =
         record {
           divisible = handed k .freight-divisible;
           within = omega (arith, parts-add ws category side (k .served), pool-limited ws (k .fine) category 0 side);
         }
 
-    pub passengers-dealable : Closable → Dealable ws category passengers (passengerPart ws category side)
+    pub passengers-dealable : Closable → Dealable ws category Passengers (passengerPart ws category side)
     passengers-dealable k =
         record {
           divisible = handed k .passengers-divisible;
           within = omega (arith, parts-add ws category side (k .served), pool-limited ws (k .fine) category 0 side);
         }
 
-    group-dealable : sound ws ≡ true → (group : ℕ) → poolWithoutElements ws category group ≡ false → Dealable ws category (ofGroup group) (pool ws category group side)
+    group-dealable : sound ws ≡ true → (group : ℕ) → poolWithoutElements ws category group ≡ false → Dealable ws category (Group group) (pool ws category group side)
     group-dealable fine group h =
         record {
           divisible = group-divisible group h;
           within = pool-limited ws fine category group side;
         }
 
-    pub chilled-dealable : Closable → Dealable ws category (ofGroup 1) (pool ws category 1 side)
+    pub chilled-dealable : Closable → Dealable ws category (Group 1) (pool ws category 1 side)
     chilled-dealable k = group-dealable (k .fine) 1 (k .chilled-served)
 
-    pub frozen-dealable : Closable → Dealable ws category (ofGroup 2) (pool ws category 2 side)
+    pub frozen-dealable : Closable → Dealable ws category (Group 2) (pool ws category 2 side)
     frozen-dealable k = group-dealable (k .fine) 2 (k .frozen-served)
 
 -- ground 9 of a closing, as the code tests it
-pub nine : (ws : List ℕ) (category f p : ℕ) (chilled frozen : Bool) → f ≡ activityAmong ws category freight → p ≡ passengersByMass ws category
+pub nine : (ws : List ℕ) (category f p : ℕ) (chilled frozen : Bool) → f ≡ activityAmong ws category Freight → p ≡ passengersByMass ws category
     → chilled ≡ poolWithoutElements ws category 1 → frozen ≡ poolWithoutElements ws category 2 → (f + p ≡ 0 → ⊥)
     → nothingToDivideBy ws category || poolWithoutElements ws category 1 || poolWithoutElements ws category 2 ≡ chilled || frozen
 nine ws category f p chilled frozen is-f is-p is-chilled is-frozen some =
     rw (← is-f, ← is-p, ← is-chilled, ← is-frozen, ne-eqb (f + p) 0 some)
 
-pub nine-nothing : (ws : List ℕ) (category f p : ℕ) → f ≡ activityAmong ws category freight → p ≡ passengersByMass ws category → f + p ≡ 0
+pub nine-nothing : (ws : List ℕ) (category f p : ℕ) → f ≡ activityAmong ws category Freight → p ≡ passengersByMass ws category → f + p ≡ 0
     → nothingToDivideBy ws category || poolWithoutElements ws category 1 || poolWithoutElements ws category 2 ≡ true
 nine-nothing ws category f p is-f is-p none = rw (← is-f, ← is-p, eq-eqb (f + p) 0 none)

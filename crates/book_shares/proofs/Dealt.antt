@@ -14,11 +14,12 @@ use Rattle.book_words.specs.Book.{elements}
 use Rattle.book_words.specs.Soundness.{sound}
 use Rattle.book_words.specs.Totals.{Side, operation, provision}
 use Rattle.book_shares.specs.declared.sharing.Parts.{Parts}
-use Rattle.book_shares.specs.declared.weights.Codes.{Codes}
+use Rattle.book_shares.specs.declared.weights.Takers.{Takers}
+use Rattle.book_shares.specs.declared.weights.Takers.the-variants.{Group, Freight, Passengers}
 use Rattle.book_shares.specs.Closing.{handOut}
 use Rattle.book_shares.specs.Dealing.{Dealable, ToDivideBy, listsBySide}
 use Rattle.book_shares.specs.Shares.{weights, partAt, dividedAll, freightPart, passengerPart, closingShare}
-use Rattle.book_shares.specs.Sums.{activityAmong, pool, freight, passengersByMass, passengers, ofGroup}
+use Rattle.book_shares.specs.Sums.{activityAmong, pool, passengersByMass}
 use Rattle.apportion.proofs.Grounds.{accepted-new}
 use Rattle.apportion.proofs.Laws.{shares-sum}
 use Rattle.apportion.proofs.Lists.{list-at, list-past, list-cong, list-length}
@@ -38,40 +39,40 @@ at-most-sum xs k =
     (λ (past : length xs ≤ k). omega (arith, List·getD-eq-default xs 0 past))
     (below-or-not k (length xs))
 
-module _ (ws : List ℕ) (category : ℕ) (codes : Codes) (amount : ℕ) (d : Dealable ws category codes amount) where
+module _ (ws : List ℕ) (category : ℕ) (takers : Takers) (amount : ℕ) (d : Dealable ws category takers amount) where
   -- no part is more than the amount
-  pub dealt-within : (k : ℕ) → at (divided amount (weights ws category codes)) k ≤ largest
+  pub dealt-within : (k : ℕ) → at (divided amount (weights ws category takers)) k ≤ largest
   dealt-within k =
       omega (
         arith,
-        at-most-sum (divided amount (weights ws category codes)) k,
-        shares-sum amount (weights ws category codes) (d .divisible),
+        at-most-sum (divided amount (weights ws category takers)) k,
+        shares-sum amount (weights ws category takers) (d .divisible),
         d .within,
       )
 
-  pub part-within : (k : ℕ) → partAt ws category codes amount k ≤ largest
+  pub part-within : (k : ℕ) → partAt ws category takers amount k ≤ largest
   unfolding partAt
   part-within k = dealt-within k
 
   -- such a division is accepted
-  pub deal-accepted : sound ws ≡ true → refusal amount (length (weights ws category codes)) (elements ws) (sumOf (weights ws category codes)) ≡ 0
+  pub deal-accepted : sound ws ≡ true → refusal amount (length (weights ws category takers)) (elements ws) (sumOf (weights ws category takers)) ≡ 0
   unfolding refusal
   deal-accepted fine =
-      rw (weights-length ws category codes, weights-sum ws category codes)
+      rw (weights-length ws category takers, weights-sum ws category takers)
       (rw (
         eq-eqb (elements ws) (elements ws) refl,
         le-ltb 256 (elements ws) (sound-counted ws fine .elements-most),
         some (d .divisible),
         le-ltb largest amount (d .within),
-        le-ltb largest (activityAmong ws category codes) (activity-limited ws fine category codes),
+        le-ltb largest (activityAmong ws category takers) (activity-limited ws fine category takers),
       ))
     where
-      some : Divisible amount (weights ws category codes) → ltb 0 amount && eqb (activityAmong ws category codes) 0 ≡ false
+      some : Divisible amount (weights ws category takers) → ltb 0 amount && eqb (activityAmong ws category takers) 0 ≡ false
       some =
           ⊎-elim
-          (λ (l : 0 < sumOf (weights ws category codes)).
-          and-false (ltb 0 amount) (eqb (activityAmong ws category codes) 0)
-          (ne-eqb (activityAmong ws category codes) 0 (λ z. omega (arith, weights-sum ws category codes))))
+          (λ (l : 0 < sumOf (weights ws category takers)).
+          and-false (ltb 0 amount) (eqb (activityAmong ws category takers) 0)
+          (ne-eqb (activityAmong ws category takers) 0 (λ z. omega (arith, weights-sum ws category takers))))
           (λ (none : amount ≡ 0). rw (le-ltb 0 amount (omega arith)))
 
 -- shares to which parts are added
@@ -113,7 +114,7 @@ division-done pool weights old e = accepted-new (refusal pool (length weights) (
 
 -- A divided by F and P, as the code does it
 pub all-divided : (ws : List ℕ) (category : ℕ) (side : Side) → sound ws ≡ true → ToDivideBy ws category → (a f p : ℕ) (old new : List ℕ) → length old ≡ 2
-    → a ≡ pool ws category 0 side → f ≡ activityAmong ws category freight → p ≡ passengersByMass ws category
+    → a ≡ pool ws category 0 side → f ≡ activityAmong ws category Freight → p ≡ passengersByMass ws category
     → new ≡ sharesAfter a (f ∷ p ∷ []) old
     → new ≡ dividedAll ws category side
 unfolding dividedAll refusal
@@ -132,13 +133,13 @@ all-divided ws category side fine served a f p old new two is-a is-f is-p is =
     ∙ rw (is-a, is-f, is-p)
 
 -- an amount that is divided by the weights of its elements, as the code does it
-pub amount-divided : (ws : List ℕ) (category : ℕ) (codes : Codes) (amount : ℕ) → sound ws ≡ true → Dealable ws category codes amount → (given old new : List ℕ)
-    → given ≡ weights ws category codes → length old ≡ elements ws → new ≡ sharesAfter amount given old
-    → new ≡ divided amount (weights ws category codes)
-amount-divided ws category codes amount fine d given old new are long is =
+pub amount-divided : (ws : List ℕ) (category : ℕ) (takers : Takers) (amount : ℕ) → sound ws ≡ true → Dealable ws category takers amount → (given old new : List ℕ)
+    → given ≡ weights ws category takers → length old ≡ elements ws → new ≡ sharesAfter amount given old
+    → new ≡ divided amount (weights ws category takers)
+amount-divided ws category takers amount fine d given old new are long is =
     is
     ∙ ap (λ (l : List ℕ). sharesAfter amount l old) are
-    ∙ division-done amount (weights ws category codes) old (rw long (deal-accepted ws category codes amount d fine))
+    ∙ division-done amount (weights ws category takers) old (rw long (deal-accepted ws category takers amount d fine))
 
 -- the shares of both sides, as the code writes them
 pub sides-written : (ws : List ℕ) (category n : ℕ) (share : Side → ℕ → ℕ) (a b new : List ℕ) → a ≡ listBelow n (share operation) → b ≡ listBelow n (share provision)
@@ -164,7 +165,7 @@ zeros-at (suc n) (suc m) (suc k) = zeros-at n m k
 pub shares-dealt : (ws : List ℕ) (category n : ℕ) (side : Side) (p : Parts) (chilled frozen : ℕ)
     → p ≡ record { freight = freightPart ws category side; passengers = passengerPart ws category side }
     → chilled ≡ pool ws category 1 side → frozen ≡ pool ws category 2 side
-    → listBelow n (λ k. partAt ws category freight (p .freight) k + partAt ws category passengers (p .passengers) k + partAt ws category (ofGroup 1) chilled k + partAt ws category (ofGroup 2) frozen k)
+    → listBelow n (λ k. partAt ws category Freight (p .freight) k + partAt ws category Passengers (p .passengers) k + partAt ws category (Group 1) chilled k + partAt ws category (Group 2) frozen k)
     ≡ listBelow n (closingShare ws category side)
 unfolding closingShare
 shares-dealt ws category n side p chilled frozen e f g = rw (e, f, g)

@@ -14,10 +14,11 @@ use Rattle.book_words.specs.Measures.{nearest, between, isHub}
 use Rattle.book_words.specs.Soundness.{sound}
 use Rattle.book_words.specs.Totals.{Side, capped, operation, provision}
 use Rattle.book_shares.specs.declared.intensities.Intensity.{Intensity}
+use Rattle.book_shares.specs.declared.weights.Takers.the-variants.{Group, Passengers, Freight}
 use Rattle.book_shares.specs.Dealing.{ToDivideBy, scaleTens}
 use Rattle.book_shares.specs.Intensities.{lacksActivity, intensityOf, scale, mostResult, intensityRefusal, isIntensityCode, passesIntensity, intensityReply}
 use Rattle.book_shares.specs.Shares.{passengerPart, freightPart}
-use Rattle.book_shares.specs.Sums.{activityAmong, freight, ofGroup, passengers, pool}
+use Rattle.book_shares.specs.Sums.{activityAmong, pool}
 use Rattle.apportion.proofs.Grounds.{or-none, first-none}
 use Rattle.book_words.proofs.Capping.{capped-both, capped-small, capped-over}
 use Rattle.book_words.proofs.Kept.{same-or-not}
@@ -26,20 +27,20 @@ use Rattle.book_shares.proofs.Bounds.{mass-tenth}
 
 module _ (ws : List ℕ) (category code : ℕ) where
   -- where ground 9 does not hold, there is an activity to divide by
-  pub some-passengers : lacksActivity ws category code ≡ false → code ≡ 100 → 0 < activityAmong ws category passengers
-  some-passengers h is = above-zero (activityAmong ws category passengers) (rw (eq-eqb code 100 is) at h)
+  pub some-passengers : lacksActivity ws category code ≡ false → code ≡ 100 → 0 < activityAmong ws category Passengers
+  some-passengers h is = above-zero (activityAmong ws category Passengers) (rw (eq-eqb code 100 is) at h)
 
   freight-parts : lacksActivity ws category code ≡ false → (code ≡ 100 → ⊥)
-      → (eqb (activityAmong ws category freight) 0 ≡ false) × (not (eqb code 0) && eqb (activityAmong ws category (ofGroup code)) 0 ≡ false)
+      → (eqb (activityAmong ws category Freight) 0 ≡ false) × (not (eqb code 0) && eqb (activityAmong ws category (Group code)) 0 ≡ false)
   freight-parts h other =
-      or-none (eqb (activityAmong ws category freight) 0) (not (eqb code 0) && eqb (activityAmong ws category (ofGroup code)) 0)
+      or-none (eqb (activityAmong ws category Freight) 0) (not (eqb code 0) && eqb (activityAmong ws category (Group code)) 0)
       (rw (ne-eqb code 100 other) at h)
 
-  pub some-freight : lacksActivity ws category code ≡ false → (code ≡ 100 → ⊥) → 0 < activityAmong ws category freight
-  some-freight h other = above-zero (activityAmong ws category freight) (freight-parts h other .0)
+  pub some-freight : lacksActivity ws category code ≡ false → (code ≡ 100 → ⊥) → 0 < activityAmong ws category Freight
+  some-freight h other = above-zero (activityAmong ws category Freight) (freight-parts h other .0)
 
-  pub some-group : lacksActivity ws category code ≡ false → (code ≡ 100 → ⊥) → (code ≡ 0 → ⊥) → 0 < activityAmong ws category (ofGroup code)
-  some-group h other grouped = above-zero (activityAmong ws category (ofGroup code)) (rw (ne-eqb code 0 grouped) at (freight-parts h other .1))
+  pub some-group : lacksActivity ws category code ≡ false → (code ≡ 100 → ⊥) → (code ≡ 0 → ⊥) → 0 < activityAmong ws category (Group code)
+  some-group h other grouped = above-zero (activityAmong ws category (Group code)) (rw (ne-eqb code 0 grouped) at (freight-parts h other .1))
 
   pub activity-to-divide-by : sound ws ≡ true → lacksActivity ws category code ≡ false → ToDivideBy ws category
   activity-to-divide-by fine h =
@@ -50,7 +51,7 @@ module _ (ws : List ℕ) (category code : ℕ) where
 
   -- the results, as the code makes them
   module _ (side : Side) where
-    pub passengers-result : (amount total r : ℕ) → code ≡ 100 → amount ≡ passengerPart ws category side → total ≡ activityAmong ws category passengers
+    pub passengers-result : (amount total r : ℕ) → code ≡ 100 → amount ≡ passengerPart ws category side → total ≡ activityAmong ws category Passengers
         → r ≡ capped (nearest (amount * 100) total) → r ≡ capped (intensityOf ws category code side)
     unfolding intensityOf
     passengers-result amount total r is e f g = rw (← e, ← f, eq-eqb code 100 is) g
@@ -63,7 +64,7 @@ module _ (ws : List ℕ) (category code : ℕ) where
         go false = refl
 
     module _ (tens amount total first : ℕ) (other : code ≡ 100 → ⊥) (is-tens : tens ≡ scaleTens (categoryOf ws category .kind))
-        (e : amount ≡ freightPart ws category side) (f : total ≡ activityAmong ws category freight) (g : first ≡ capped (nearest (amount * 10 ^ tens) total)) where
+        (e : amount ≡ freightPart ws category side) (f : total ≡ activityAmong ws category Freight) (g : first ≡ capped (nearest (amount * 10 ^ tens) total)) where
       unit : 10 ^ tens ≡ scale (categoryOf ws category .kind)
       unit = ap (λ (n : ℕ). 10 ^ n) is-tens ∙ tens-scale (categoryOf ws category .kind)
 
@@ -71,7 +72,7 @@ module _ (ws : List ℕ) (category code : ℕ) where
       unfolding intensityOf
       freight-result none = rw (← e, ← f, ← unit, ne-eqb code 100 other, eq-eqb code 0 none, add-zero) g
 
-      pub group-result : (more share second r : ℕ) → (code ≡ 0 → ⊥) → more ≡ pool ws category code side → share ≡ activityAmong ws category (ofGroup code)
+      pub group-result : (more share second r : ℕ) → (code ≡ 0 → ⊥) → more ≡ pool ws category code side → share ≡ activityAmong ws category (Group code)
           → second ≡ capped (nearest (more * 10 ^ tens) share) → r ≡ capped (first + second) → r ≡ capped (intensityOf ws category code side)
       unfolding intensityOf
       group-result more share second r grouped h i j k =

@@ -1,7 +1,7 @@
 -- The laws of the shares that a closing deals out. Assumes nothing.
 use mathlib.Core.Bool.{Bool, true, false}
 use mathlib.Core.List.{List, _∷_, []}
-use mathlib.Core.Logic.{_⊎_, inl, inr, ⊎-elim}
+use mathlib.Core.Logic.{inl, ⊎-elim}
 use mathlib.Core.Path.{_≡_, refl, sym, ap, _∙_}
 use Prim.Native.Nat.{ℕ, _+_, _*_, _≤_, _<_}
 use native.Mathlib.Nat.{eq-zero-or-pos, eq-or-lt-of-le}
@@ -15,16 +15,17 @@ use Rattle.apportion.specs.Places.{sumBelow, at, sumOf, kept}
 use Rattle.book_words.specs.Book.{elements, elementAt}
 use Rattle.book_words.specs.Measures.{between, isCode}
 use Rattle.book_words.specs.Totals.{Side}
-use Rattle.book_shares.specs.declared.weights.Codes.{Codes}
+use Rattle.book_shares.specs.declared.weights.Takers.{Takers}
+use Rattle.book_shares.specs.declared.weights.Takers.the-variants.{Group, Freight, Passengers}
 use Rattle.book_shares.specs.Dealing.{ToDivideBy}
 use Rattle.book_shares.specs.Shares.{dividedAll, freightPart, passengerPart, weights, partAt, closingShare, exactShare, exactIn, over, plus}
-use Rattle.book_shares.specs.Sums.{pool, freight, passengers, ofGroup, among, activityAmong, passengersByMass, goesTo}
+use Rattle.book_shares.specs.Sums.{pool, among, activityAmong, passengersByMass, goesTo, takes}
 use Rattle.apportion.proofs.Laws.{shares-length, shares-sum, share-of-zero, share-near}
 use Rattle.apportion.proofs.Lists.{list-length, list-at, list-past, list-sum}
 use Rattle.apportion.proofs.Omitting.{divided-kept}
 use Rattle.apportion.proofs.Sums.{below-or-not, sum-add, sum-some}
 use Rattle.book_words.proofs.Booleans.{and-both, and-false}
-use Rattle.book_words.proofs.Ranges.{between-outside, between-inside}
+use Rattle.book_words.proofs.Ranges.{between-outside}
 use Rattle.book_shares.proofs.Nearness.{near-chain, near-cancel, near-plus, near-weaken}
 
 -- the sum of a list of two
@@ -48,43 +49,41 @@ module _ (A F P C : ℕ) (B S : ℕ → ℕ) (code activity : ℕ) where
   exact-passengers g = rw (lt-leb code 2 g)
 
 -- the elements that a pool goes to, and what each gets of it
-module _ (ws : List ℕ) (category : ℕ) (codes : Codes) where
+module _ (ws : List ℕ) (category : ℕ) (takers : Takers) where
   -- the pool goes to the element at this place
   abbrev pub takesPart : ℕ → Bool
-  takesPart p = goesTo category codes (elementAt ws p)
+  takesPart p = goesTo category takers (elementAt ws p)
 
-  pub goes-here : (p : ℕ) → elementAt ws p .category ≡ category → between (codes .first) (codes .last) (elementAt ws p .code) ≡ true → takesPart p ≡ true
+  pub goes-here : (p : ℕ) → elementAt ws p .category ≡ category → takes takers (elementAt ws p .code) ≡ true → takesPart p ≡ true
   goes-here p same e =
-      and-both (eqb (elementAt ws p .category) category) (between (codes .first) (codes .last) (elementAt ws p .code))
+      and-both (eqb (elementAt ws p .category) category) (takes takers (elementAt ws p .code))
       (eq-eqb (elementAt ws p .category) category same) e
 
   pub goes-elsewhere : (p : ℕ) → (elementAt ws p .category ≡ category → ⊥) → takesPart p ≡ false
   goes-elsewhere p other = rw (ne-eqb (elementAt ws p .category) category other)
 
-  pub goes-outside : (p : ℕ) → (elementAt ws p .code < codes .first) ⊎ (codes .last < elementAt ws p .code) → takesPart p ≡ false
-  goes-outside p other =
-      and-false (eqb (elementAt ws p .category) category) (between (codes .first) (codes .last) (elementAt ws p .code))
-      (between-outside (codes .first) (codes .last) (elementAt ws p .code) other)
+  pub goes-outside : (p : ℕ) → takes takers (elementAt ws p .code) ≡ false → takesPart p ≡ false
+  goes-outside p other = and-false (eqb (elementAt ws p .category) category) (takes takers (elementAt ws p .code)) other
 
   -- the weight of the element at this place
   abbrev weight : ℕ → ℕ
-  weight p = among category codes (λ e. e .activity) (elementAt ws p)
+  weight p = among category takers (λ e. e .activity) (elementAt ws p)
 
   -- there is a weight for every element, and together they are the activity
-  pub weights-length : length (weights ws category codes) ≡ elements ws
+  pub weights-length : length (weights ws category takers) ≡ elements ws
   unfolding weights
   weights-length = list-length (elements ws) weight
 
-  pub weights-sum : sumOf (weights ws category codes) ≡ activityAmong ws category codes
+  pub weights-sum : sumOf (weights ws category takers) ≡ activityAmong ws category takers
   unfolding weights activityAmong
   weights-sum = list-sum (elements ws) weight
 
-  pub weight-at : (p : ℕ) → p < elements ws → at (weights ws category codes) p ≡ among category codes (λ e. e .activity) (elementAt ws p)
+  pub weight-at : (p : ℕ) → p < elements ws → at (weights ws category takers) p ≡ among category takers (λ e. e .activity) (elementAt ws p)
   unfolding weights
   weight-at p h = list-at (elements ws) weight p h
 
   -- an element that the pool does not go to has weight 0, and so has a place past the elements
-  pub weight-none : (p : ℕ) → takesPart p ≡ false → at (weights ws category codes) p ≡ 0
+  pub weight-none : (p : ℕ) → takesPart p ≡ false → at (weights ws category takers) p ≡ 0
   unfolding weights
   weight-none p e =
       ⊎-elim
@@ -93,46 +92,46 @@ module _ (ws : List ℕ) (category : ℕ) (codes : Codes) where
       (below-or-not p (elements ws))
 
   -- and it gets nothing
-  pub part-none : (amount : ℕ) → Divisible amount (weights ws category codes) → (p : ℕ) → takesPart p ≡ false → partAt ws category codes amount p ≡ 0
+  pub part-none : (amount : ℕ) → Divisible amount (weights ws category takers) → (p : ℕ) → takesPart p ≡ false → partAt ws category takers amount p ≡ 0
   unfolding partAt
-  part-none amount divisible p e = share-of-zero amount (weights ws category codes) divisible p (weight-none p e)
+  part-none amount divisible p e = share-of-zero amount (weights ws category takers) divisible p (weight-none p e)
 
   -- the elements that a pool goes to get what they would get alone
-  pub alone : (amount : ℕ) → Divisible amount (weights ws category codes)
-      → kept takesPart (divided amount (weights ws category codes)) ≡ divided amount (kept takesPart (weights ws category codes))
-  alone amount divisible = sym (divided-kept amount (weights ws category codes) takesPart (λ p h e. weight-none p e) divisible)
+  pub alone : (amount : ℕ) → Divisible amount (weights ws category takers)
+      → kept takesPart (divided amount (weights ws category takers)) ≡ divided amount (kept takesPart (weights ws category takers))
+  alone amount divisible = sym (divided-kept amount (weights ws category takers) takesPart (λ p h e. weight-none p e) divisible)
 
   -- all parts together are the pool
-  pub parts-sum : (amount : ℕ) → Divisible amount (weights ws category codes) → sumBelow (elements ws) (partAt ws category codes amount) ≡ amount
+  pub parts-sum : (amount : ℕ) → Divisible amount (weights ws category takers) → sumBelow (elements ws) (partAt ws category takers amount) ≡ amount
   unfolding partAt sumOf
   parts-sum amount divisible =
-      rw (shares-length amount (weights ws category codes), weights-length) at (shares-sum amount (weights ws category codes) divisible)
+      rw (shares-length amount (weights ws category takers), weights-length) at (shares-sum amount (weights ws category takers) divisible)
 
   -- the activity of an element that the pool goes to is one of those that it is divided by
-  pub activity-within : (p : ℕ) → p < elements ws → takesPart p ≡ true → elementAt ws p .activity ≤ activityAmong ws category codes
+  pub activity-within : (p : ℕ) → p < elements ws → takesPart p ≡ true → elementAt ws p .activity ≤ activityAmong ws category takers
   unfolding activityAmong
   activity-within p h e = rw e at (sum-some (elements ws) weight p h)
 
   -- and its part is near to its exact part of the pool
   pub part-near : (amount p : ℕ) → p < elements ws → takesPart p ≡ true → 0 < elementAt ws p .activity
-      → Within 1 (partAt ws category codes amount p) (amount * elementAt ws p .activity) (activityAmong ws category codes)
+      → Within 1 (partAt ws category takers amount p) (amount * elementAt ws p .activity) (activityAmong ws category takers)
   unfolding partAt
   part-near amount p h e some =
       rw (weights-sum, weight-at p h, e)
-      at (share-near amount (weights ws category codes) (rw weights-sum (omega (arith, activity-within p h e))) p)
+      at (share-near amount (weights ws category takers) (rw weights-sum (omega (arith, activity-within p h e))) p)
 
 module _ (ws : List ℕ) (category : ℕ) (side : Side) where
   -- what the four divisions of a closing need
   pub record Handed : Type 0 where
     pub served : ToDivideBy ws category
-    pub freight-divisible : Divisible (freightPart ws category side) (weights ws category freight)
-    pub passengers-divisible : Divisible (passengerPart ws category side) (weights ws category passengers)
-    pub chilled-divisible : Divisible (pool ws category 1 side) (weights ws category (ofGroup 1))
-    pub frozen-divisible : Divisible (pool ws category 2 side) (weights ws category (ofGroup 2))
+    pub freight-divisible : Divisible (freightPart ws category side) (weights ws category Freight)
+    pub passengers-divisible : Divisible (passengerPart ws category side) (weights ws category Passengers)
+    pub chilled-divisible : Divisible (pool ws category 1 side) (weights ws category (Group 1))
+    pub frozen-divisible : Divisible (pool ws category 2 side) (weights ws category (Group 2))
 
   -- the two weights of A
   abbrev both-weights : List ℕ
-  both-weights = activityAmong ws category freight ∷ passengersByMass ws category ∷ []
+  both-weights = activityAmong ws category Freight ∷ passengersByMass ws category ∷ []
 
   both-some : ToDivideBy ws category → 0 < sumOf both-weights
   both-some served = rw (sum-two both-weights refl) served
@@ -146,7 +145,7 @@ module _ (ws : List ℕ) (category : ℕ) (side : Side) where
 
   -- and each part of it is near to its exact part
   all-near : ToDivideBy ws category → (k : ℕ)
-      → Within 1 (at (dividedAll ws category side) k) (pool ws category 0 side * at both-weights k) (activityAmong ws category freight + passengersByMass ws category)
+      → Within 1 (at (dividedAll ws category side) k) (pool ws category 0 side * at both-weights k) (activityAmong ws category Freight + passengersByMass ws category)
   unfolding dividedAll
   all-near served k = rw (sum-two both-weights refl) at (share-near (pool ws category 0 side) both-weights (both-some served) k)
 
@@ -155,45 +154,45 @@ module _ (ws : List ℕ) (category : ℕ) (side : Side) where
   unfolding closingShare
   shares-add h =
       let n = elements ws in
-      let a = partAt ws category freight (freightPart ws category side) in
-      let b = partAt ws category passengers (passengerPart ws category side) in
-      let c = partAt ws category (ofGroup 1) (pool ws category 1 side) in
-      let d = partAt ws category (ofGroup 2) (pool ws category 2 side) in
+      let a = partAt ws category Freight (freightPart ws category side) in
+      let b = partAt ws category Passengers (passengerPart ws category side) in
+      let c = partAt ws category (Group 1) (pool ws category 1 side) in
+      let d = partAt ws category (Group 2) (pool ws category 2 side) in
       omega (
         arith,
         sum-add n (λ p. a p + b p + c p) d,
         sum-add n (λ p. a p + b p) c,
         sum-add n a b,
-        parts-sum ws category freight (freightPart ws category side) (h .freight-divisible),
-        parts-sum ws category passengers (passengerPart ws category side) (h .passengers-divisible),
-        parts-sum ws category (ofGroup 1) (pool ws category 1 side) (h .chilled-divisible),
-        parts-sum ws category (ofGroup 2) (pool ws category 2 side) (h .frozen-divisible),
+        parts-sum ws category Freight (freightPart ws category side) (h .freight-divisible),
+        parts-sum ws category Passengers (passengerPart ws category side) (h .passengers-divisible),
+        parts-sum ws category (Group 1) (pool ws category 1 side) (h .chilled-divisible),
+        parts-sum ws category (Group 2) (pool ws category 2 side) (h .frozen-divisible),
         parts-add (h .served),
       )
 
 -- what an element gets of the freight part, of the passenger part, and of the pool of a group
 module _ (ws : List ℕ) (category : ℕ) (side : Side) (p : ℕ) where
   abbrev freightShare : ℕ
-  freightShare = partAt ws category freight (freightPart ws category side) p
+  freightShare = partAt ws category Freight (freightPart ws category side) p
 
   abbrev passengerShare : ℕ
-  passengerShare = partAt ws category passengers (passengerPart ws category side) p
+  passengerShare = partAt ws category Passengers (passengerPart ws category side) p
 
   abbrev groupShare : ℕ → ℕ
-  groupShare g = partAt ws category (ofGroup g) (pool ws category g side) p
+  groupShare g = partAt ws category (Group g) (pool ws category g side) p
 
 module _ (ws : List ℕ) (category : ℕ) (side : Side) (h : Handed ws category side) (p : ℕ) where
-  freight-none : takesPart ws category freight p ≡ false → freightShare ws category side p ≡ 0
-  freight-none = part-none ws category freight (freightPart ws category side) (h .freight-divisible) p
+  freight-none : takesPart ws category Freight p ≡ false → freightShare ws category side p ≡ 0
+  freight-none = part-none ws category Freight (freightPart ws category side) (h .freight-divisible) p
 
-  passengers-none : takesPart ws category passengers p ≡ false → passengerShare ws category side p ≡ 0
-  passengers-none = part-none ws category passengers (passengerPart ws category side) (h .passengers-divisible) p
+  passengers-none : takesPart ws category Passengers p ≡ false → passengerShare ws category side p ≡ 0
+  passengers-none = part-none ws category Passengers (passengerPart ws category side) (h .passengers-divisible) p
 
-  chilled-none : takesPart ws category (ofGroup 1) p ≡ false → groupShare ws category side p 1 ≡ 0
-  chilled-none = part-none ws category (ofGroup 1) (pool ws category 1 side) (h .chilled-divisible) p
+  chilled-none : takesPart ws category (Group 1) p ≡ false → groupShare ws category side p 1 ≡ 0
+  chilled-none = part-none ws category (Group 1) (pool ws category 1 side) (h .chilled-divisible) p
 
-  frozen-none : takesPart ws category (ofGroup 2) p ≡ false → groupShare ws category side p 2 ≡ 0
-  frozen-none = part-none ws category (ofGroup 2) (pool ws category 2 side) (h .frozen-divisible) p
+  frozen-none : takesPart ws category (Group 2) p ≡ false → groupShare ws category side p 2 ≡ 0
+  frozen-none = part-none ws category (Group 2) (pool ws category 2 side) (h .frozen-divisible) p
 
   -- An element of another category gets nothing.
   pub share-elsewhere : (elementAt ws p .category ≡ category → ⊥) → closingShare ws category side p ≡ 0
@@ -201,10 +200,10 @@ module _ (ws : List ℕ) (category : ℕ) (side : Side) (h : Handed ws category 
   share-elsewhere other =
       omega (
         arith,
-        freight-none (goes-elsewhere ws category freight p other),
-        passengers-none (goes-elsewhere ws category passengers p other),
-        chilled-none (goes-elsewhere ws category (ofGroup 1) p other),
-        frozen-none (goes-elsewhere ws category (ofGroup 2) p other),
+        freight-none (goes-elsewhere ws category Freight p other),
+        passengers-none (goes-elsewhere ws category Passengers p other),
+        chilled-none (goes-elsewhere ws category (Group 1) p other),
+        frozen-none (goes-elsewhere ws category (Group 2) p other),
       )
 
 -- an element of the category with an activity
@@ -220,23 +219,23 @@ module _ (ws : List ℕ) (category : ℕ) (side : Side) (h : Handed ws category 
   A = pool ws category 0 side
 
   abbrev F : ℕ
-  F = activityAmong ws category freight
+  F = activityAmong ws category Freight
 
   abbrev P : ℕ
   P = passengersByMass ws category
 
   -- its share of the freight part (k is 0) or of the passenger part (k is 1) of A
-  of-all-near : (k : ℕ) (codes : Codes) → takesPart ws category codes p ≡ true
-      → Within 2 (partAt ws category codes (at (dividedAll ws category side) k) p) (A * at (F ∷ P ∷ []) k * activity) ((F + P) * activityAmong ws category codes)
-  of-all-near k codes e =
+  of-all-near : (k : ℕ) (takers : Takers) → takesPart ws category takers p ≡ true
+      → Within 2 (partAt ws category takers (at (dividedAll ws category side) k) p) (A * at (F ∷ P ∷ []) k * activity) ((F + P) * activityAmong ws category takers)
+  of-all-near k takers e =
       near-chain (all-near ws category side (h .served) k)
-      (part-near ws category codes (at (dividedAll ws category side) k) p here e some)
-      (activity-within ws category codes p here e)
+      (part-near ws category takers (at (dividedAll ws category side) k) p here e some)
+      (activity-within ws category takers p here e)
 
   -- F, by which the freight part was found and is divided, cancels
   freight-near : code ≤ 2 → Within 2 (freightShare ws category side p) (A * activity) (F + P)
   freight-near l =
-      let near = of-all-near 0 freight (goes-here ws category freight p same (between-inside 0 2 code (omega arith) l)) in
+      let near = of-all-near 0 Freight (goes-here ws category Freight p same (le-leb code 2 l)) in
       near-cancel F (omega (arith, near))
 
   -- chilled or frozen freight gets of its own group's pool alone
@@ -246,14 +245,14 @@ module _ (ws : List ℕ) (category : ℕ) (side : Side) (h : Handed ws category 
       (λ (e : code ≡ 2).
       omega (
         arith,
-        chilled-none ws category side h p (goes-outside ws category (ofGroup 1) p (inr (omega arith))),
+        chilled-none ws category side h p (goes-outside ws category (Group 1) p (ne-eqb code 1 (λ z. omega arith))),
         ap (groupShare ws category side p) e,
       ))
       (λ (e : code < 2).
       let one : code ≡ 1 = omega arith in
       omega (
         arith,
-        frozen-none ws category side h p (goes-outside ws category (ofGroup 2) p (inl e)),
+        frozen-none ws category side h p (goes-outside ws category (Group 2) p (ne-eqb code 2 (λ z. omega arith))),
         ap (groupShare ws category side p) one,
       ))
       (eq-or-lt-of-le l)
@@ -262,15 +261,15 @@ module _ (ws : List ℕ) (category : ℕ) (side : Side) (h : Handed ws category 
   freight-alone : code ≤ 2
       → closingShare ws category side p ≡ freightShare ws category side p + (groupShare ws category side p 1 + groupShare ws category side p 2)
   unfolding closingShare
-  freight-alone l = omega (arith, passengers-none ws category side h p (goes-outside ws category passengers p (inl (omega arith))))
+  freight-alone l = omega (arith, passengers-none ws category side h p (goes-outside ws category Passengers p (between-outside 100 1000 code (inl (omega arith)))))
 
   ambient-alone : code ≡ 0 → closingShare ws category side p ≡ freightShare ws category side p
   ambient-alone e =
       omega (
         arith,
         freight-alone (omega arith),
-        chilled-none ws category side h p (goes-outside ws category (ofGroup 1) p (inl (omega arith))),
-        frozen-none ws category side h p (goes-outside ws category (ofGroup 2) p (inl (omega arith))),
+        chilled-none ws category side h p (goes-outside ws category (Group 1) p (ne-eqb code 1 (λ z. omega arith))),
+        frozen-none ws category side h p (goes-outside ws category (Group 2) p (ne-eqb code 2 (λ z. omega arith))),
       )
 
   -- passengers get of the passenger part alone
@@ -279,9 +278,9 @@ module _ (ws : List ℕ) (category : ℕ) (side : Side) (h : Handed ws category 
   passengers-alone g =
       omega (
         arith,
-        freight-none ws category side h p (goes-outside ws category freight p (inr g)),
-        chilled-none ws category side h p (goes-outside ws category (ofGroup 1) p (inr (omega arith))),
-        frozen-none ws category side h p (goes-outside ws category (ofGroup 2) p (inr g)),
+        freight-none ws category side h p (goes-outside ws category Freight p (lt-leb code 2 g)),
+        chilled-none ws category side h p (goes-outside ws category (Group 1) p (ne-eqb code 1 (λ z. omega arith))),
+        frozen-none ws category side h p (goes-outside ws category (Group 2) p (ne-eqb code 2 (λ z. omega arith))),
       )
 
   -- its share is near to its exact share
@@ -298,14 +297,14 @@ module _ (ws : List ℕ) (category : ℕ) (side : Side) (h : Handed ws category 
   grouped-near g l =
       rw (freight-alone l, group-alone g l, exact-grouped)
       (near-plus (freight-near l)
-      (part-near ws category (ofGroup code) (pool ws category code side) p here
-      (goes-here ws category (ofGroup code) p same (between-inside code code code (omega arith) (omega arith)))
+      (part-near ws category (Group code) (pool ws category code side) p here
+      (goes-here ws category (Group code) p same (eq-eqb code code refl))
       some))
 
   passengers-near : 2 < code → between 100 1000 code ≡ true → Near
   passengers-near g e =
       rw (passengers-alone g, exact-passengers)
-      (near-weaken (omega arith) (of-all-near 1 passengers (goes-here ws category passengers p same e)))
+      (near-weaken (omega arith) (of-all-near 1 Passengers (goes-here ws category Passengers p same e)))
 
 -- The share of an element of the category is less than three units from its exact share, both ways.
 pub share-within : (ws : List ℕ) (category : ℕ) (side : Side) → Handed ws category side → (p : ℕ) → p < elements ws

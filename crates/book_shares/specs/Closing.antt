@@ -7,18 +7,19 @@ use Rattle.apportion.specs.Grounds.{Ground, firstOf, accepted}
 use Rattle.book_words.specs.Book.{unnumbered, categories, isClosed, elementAt, elements, putShares, closeCategory}
 use Rattle.book_words.specs.Soundness.{sound}
 use Rattle.book_words.specs.Totals.{operation, provision, Side}
+use Rattle.book_shares.specs.declared.weights.Takers.the-variants.{Group, Freight}
 use Rattle.book_shares.specs.Shares.{closingShare}
-use Rattle.book_shares.specs.Sums.{pool, activityAmong, ofGroup, freight, passengersByMass}
+use Rattle.book_shares.specs.Sums.{pool, activityAmong, passengersByMass}
 
 -- ground 9: "a B, operation or provision, is above 0 and its S is 0"
 abbrev pub poolWithoutElements : List ℕ → ℕ → ℕ → Bool
 poolWithoutElements ws category group =
     (ltb 0 (pool ws category group operation) || ltb 0 (pool ws category group provision))
-    && eqb (activityAmong ws category (ofGroup group)) 0
+    && eqb (activityAmong ws category (Group group)) 0
 
 -- ground 9: "F+P is 0"
 abbrev pub nothingToDivideBy : List ℕ → ℕ → Bool
-nothingToDivideBy ws category = eqb (activityAmong ws category freight + passengersByMass ws category) 0
+nothingToDivideBy ws category = eqb (activityAmong ws category Freight + passengersByMass ws category) 0
 
 abbrev pub closeGrounds : List ℕ → ℕ → List Ground
 closeGrounds ws category =

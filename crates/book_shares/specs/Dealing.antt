@@ -8,9 +8,10 @@ use Rattle.book_words.specs.Measures.{isHub}
 use Rattle.book_words.specs.Totals.{Side, operation, provision}
 use Rattle.book_shares.specs.declared.pools.Stage.{Stage}
 use Rattle.book_shares.specs.declared.pools.Stage.the-variants.{Operation, Provision}
-use Rattle.book_shares.specs.declared.weights.Codes.{Codes}
+use Rattle.book_shares.specs.declared.weights.Takers.{Takers}
+use Rattle.book_shares.specs.declared.weights.Takers.the-variants.{Freight}
 use Rattle.book_shares.specs.Shares.{weights}
-use Rattle.book_shares.specs.Sums.{activityAmong, freight, passengersByMass}
+use Rattle.book_shares.specs.Sums.{activityAmong, passengersByMass}
 
 -- the side that a stage is
 abbrev pub sideAt : Stage → Side
@@ -19,11 +20,11 @@ sideAt Provision = provision
 
 -- there is something to divide A by: "F+P" is above 0
 abbrev pub ToDivideBy : List ℕ → ℕ → Type 0
-ToDivideBy ws category = 0 < activityAmong ws category freight + passengersByMass ws category
+ToDivideBy ws category = 0 < activityAmong ws category Freight + passengersByMass ws category
 
--- an amount that can be dealt out over the elements with these codes
-pub record Dealable (ws : List ℕ) (category : ℕ) (codes : Codes) (amount : ℕ) : Type 0 where
-  pub divisible : Divisible amount (weights ws category codes)
+-- an amount that can be dealt out over these elements
+pub record Dealable (ws : List ℕ) (category : ℕ) (takers : Takers) (amount : ℕ) : Type 0 where
+  pub divisible : Divisible amount (weights ws category takers)
   pub within : amount ≤ largest
 
 -- two lists by their sides

@@ -9,8 +9,9 @@ use Rattle.book_words.specs.Measures.{isFreight, isHub, nearest}
 use Rattle.book_words.specs.Soundness.{sound}
 use Rattle.book_words.specs.Totals.{Side, operation, provision}
 use Rattle.book_shares.specs.declared.intensities.Intensity.{Intensity}
+use Rattle.book_shares.specs.declared.weights.Takers.the-variants.{Group, Freight, Passengers}
 use Rattle.book_shares.specs.Shares.{freightPart, passengerPart}
-use Rattle.book_shares.specs.Sums.{activityAmong, freight, pool, ofGroup, passengers}
+use Rattle.book_shares.specs.Sums.{activityAmong, pool}
 
 abbrev pub isIntensityCode : ℕ → Bool
 isIntensityCode code = isFreight code || eqb code 100
@@ -22,17 +23,17 @@ scale kind = cond (isHub kind) 1 1000
 -- "freight part × 1000 / F"
 abbrev pub freightIntensity : List ℕ → ℕ → Side → ℕ
 freightIntensity ws category side =
-    nearest (freightPart ws category side * scale (categoryOf ws category .kind)) (activityAmong ws category freight)
+    nearest (freightPart ws category side * scale (categoryOf ws category .kind)) (activityAmong ws category Freight)
 
 -- "plus B × 1000 / S for 1 and 2"
 abbrev pub groupIntensity : List ℕ → ℕ → ℕ → Side → ℕ
 groupIntensity ws category group side =
-    nearest (pool ws category group side * scale (categoryOf ws category .kind)) (activityAmong ws category (ofGroup group))
+    nearest (pool ws category group side * scale (categoryOf ws category .kind)) (activityAmong ws category (Group group))
 
 -- "Code 100, mg per lowest-class passenger-km: passenger part × 100 / C."
 abbrev pub passengerIntensity : List ℕ → ℕ → Side → ℕ
 passengerIntensity ws category side =
-    nearest (passengerPart ws category side * 100) (activityAmong ws category passengers)
+    nearest (passengerPart ws category side * 100) (activityAmong ws category Passengers)
 
 -- "each quotient below is rounded to nearest, halves up, and then added"
 unfoldable pub intensityOf : List ℕ → ℕ → ℕ → Side → ℕ
@@ -45,9 +46,9 @@ intensityOf ws category code side =
 abbrev pub lacksActivity : List ℕ → ℕ → ℕ → Bool
 lacksActivity ws category code =
     cond (eqb code 100)
-    (eqb (activityAmong ws category passengers) 0)
-    (eqb (activityAmong ws category freight) 0
-    || (not (eqb code 0) && eqb (activityAmong ws category (ofGroup code)) 0))
+    (eqb (activityAmong ws category Passengers) 0)
+    (eqb (activityAmong ws category Freight) 0
+    || (not (eqb code 0) && eqb (activityAmong ws category (Group code)) 0))
 
 -- ground 10: "an intensity result, operation or provision, would pass 10^15"
 abbrev pub mostResult : ℕ

@@ -9,13 +9,14 @@ use Rattle.book_words.specs.Book.{elements, elementAt}
 use Rattle.book_words.specs.Measures.{isFreight}
 use Rattle.book_words.specs.Totals.{Side}
 use Rattle.book_words.specs.declared.records.Element.{Element}
-use Rattle.book_shares.specs.declared.weights.Codes.{Codes}
-use Rattle.book_shares.specs.Sums.{pool, activityAmong, freight, passengersByMass, among, passengers, ofGroup}
+use Rattle.book_shares.specs.declared.weights.Takers.{Takers}
+use Rattle.book_shares.specs.declared.weights.Takers.the-variants.{Group, Freight, Passengers}
+use Rattle.book_shares.specs.Sums.{pool, activityAmong, passengersByMass, among}
 
 -- "Divide A by the weights F, P in that order."
 unfoldable pub dividedAll : List ℕ → ℕ → Side → List ℕ
 dividedAll ws category side =
-    divided (pool ws category 0 side) (activityAmong ws category freight ∷ passengersByMass ws category ∷ [])
+    divided (pool ws category 0 side) (activityAmong ws category Freight ∷ passengersByMass ws category ∷ [])
 
 abbrev pub freightPart : List ℕ → ℕ → Side → ℕ
 freightPart ws category side = at (dividedAll ws category side) 0
@@ -26,21 +27,21 @@ passengerPart ws category side = at (dividedAll ws category side) 1
 -- the activities of the elements that a pool goes to. There is a weight for every element of the book, in its place, and it is 0
 -- for those that the pool does not go to: where the pool can be divided, these get 0 and the others what they would get alone
 -- (law `alone`)
-unfoldable pub weights : List ℕ → ℕ → Codes → List ℕ
-weights ws category codes = listBelow (elements ws) (λ p. among category codes (λ e. e .activity) (elementAt ws p))
+unfoldable pub weights : List ℕ → ℕ → Takers → List ℕ
+weights ws category takers = listBelow (elements ws) (λ p. among category takers (λ e. e .activity) (elementAt ws p))
 
 -- the part of a pool that the element at this place gets
-unfoldable pub partAt : List ℕ → ℕ → Codes → ℕ → ℕ → ℕ
-partAt ws category codes amount place = at (divided amount (weights ws category codes)) place
+unfoldable pub partAt : List ℕ → ℕ → Takers → ℕ → ℕ → ℕ
+partAt ws category takers amount place = at (divided amount (weights ws category takers)) place
 
 -- "Divide the freight part over freight elements by activity, the passenger part over passenger elements by activity, each B
 -- over the freight elements of its group. A share is the sum of an element's parts."
 unfoldable pub closingShare : List ℕ → ℕ → Side → ℕ → ℕ
 closingShare ws category side place =
-    partAt ws category freight (freightPart ws category side) place
-    + partAt ws category passengers (passengerPart ws category side) place
-    + partAt ws category (ofGroup 1) (pool ws category 1 side) place
-    + partAt ws category (ofGroup 2) (pool ws category 2 side) place
+    partAt ws category Freight (freightPart ws category side) place
+    + partAt ws category Passengers (passengerPart ws category side) place
+    + partAt ws category (Group 1) (pool ws category 1 side) place
+    + partAt ws category (Group 2) (pool ws category 2 side) place
 
 -- a fraction, by its numerator and its denominator
 pub record Fraction : Type 0 where
@@ -68,10 +69,10 @@ abbrev pub exactIn : List ℕ → ℕ → Side → Element → Fraction
 exactIn ws category side e =
     exactShare
     (pool ws category 0 side)
-    (activityAmong ws category freight)
+    (activityAmong ws category Freight)
     (passengersByMass ws category)
-    (activityAmong ws category passengers)
+    (activityAmong ws category Passengers)
     (λ g. pool ws category g side)
-    (λ g. activityAmong ws category (ofGroup g))
+    (λ g. activityAmong ws category (Group g))
     (e .code)
     (e .activity)

@@ -14,7 +14,7 @@ use crate::pools;
 use crate::pools::Stage;
 use crate::sharing::set_shares;
 use crate::weights;
-use crate::weights::Codes;
+use crate::weights::Takers;
 
 // Closes a category of a book that is known to be sound, and answers the refusal number.
 pub fn close_sound(book: &mut [u64], category: u64) -> u64
@@ -41,7 +41,7 @@ fn refusal_number(book: &[u64], category: u64) -> u64
     if r.closed != 0 {
         return 4;
     }
-    let activity = weights::activity_among(book, category, weights::FREIGHT);
+    let activity = weights::activity_among(book, category, Takers::Freight);
     let mass = weights::passengers_by_mass(book, category);
     if activity + mass == 0 {
         return 9;
@@ -59,11 +59,8 @@ fn is_without_elements(book: &[u64], category: u64, group: u64) -> bool
 {
     let operation = pools::pool(book, category, group, Stage::Operation);
     let provision = pools::pool(book, category, group, Stage::Provision);
-    let codes = Codes {
-        first: group,
-        last: group,
-    };
-    ((0 < operation) | (0 < provision)) & (weights::activity_among(book, category, codes) == 0)
+    ((0 < operation) | (0 < provision))
+        & (weights::activity_among(book, category, Takers::Group(group)) == 0)
 }
 
 // Hands out the pools of the category, and closes it.

@@ -13,7 +13,7 @@ use crate::pools;
 use crate::pools::Stage;
 use crate::sharing;
 use crate::weights;
-use crate::weights::Codes;
+use crate::weights::Takers;
 
 // The largest result, 10^15.
 const MOST_RESULT: u64 = 1_000_000_000_000_000;
@@ -79,14 +79,11 @@ fn lacks_activity(book: &[u64], category: u64, code: u64) -> bool
     ensures { λ r. ⌜ r ≡ lacksActivity (now (book .entry)) category code ⌝ }
 {
     if code == 100 {
-        return weights::activity_among(book, category, weights::PASSENGERS) == 0;
+        return weights::activity_among(book, category, Takers::Passengers) == 0;
     }
-    let freight = weights::activity_among(book, category, weights::FREIGHT);
-    let codes = Codes {
-        first: code,
-        last: code,
-    };
-    (freight == 0) | ((code != 0) & (weights::activity_among(book, category, codes) == 0))
+    let freight = weights::activity_among(book, category, Takers::Freight);
+    (freight == 0)
+        | ((code != 0) & (weights::activity_among(book, category, Takers::Group(code)) == 0))
 }
 
 // The intensity of one side, capped.
@@ -98,21 +95,17 @@ fn result(book: &[u64], category: u64, code: u64, stage: Stage) -> u64
 {
     let parts = sharing::divide_all(book, category, stage);
     if code == 100 {
-        let total = weights::activity_among(book, category, weights::PASSENGERS);
+        let total = weights::activity_among(book, category, Takers::Passengers);
         return quotient(parts.passengers, 2, total);
     }
     let tens = scale_tens(book_words::category_of(book, category).kind);
-    let total = weights::activity_among(book, category, weights::FREIGHT);
+    let total = weights::activity_among(book, category, Takers::Freight);
     let freight = quotient(parts.freight, tens, total);
     if code == 0 {
         return freight;
     }
     let amount = pools::pool(book, category, code, stage);
-    let codes = Codes {
-        first: code,
-        last: code,
-    };
-    let activity = weights::activity_among(book, category, codes);
+    let activity = weights::activity_among(book, category, Takers::Group(code));
     book_words::add(freight, quotient(amount, tens, activity))
 }
 

@@ -13,7 +13,7 @@ ghost use Rattle.book_shares.specs.Shares.{freightPart, passengerPart, p
 use crate::pools;
 use crate::pools::Stage;
 use crate::weights;
-use crate::weights::Codes;
+use crate::weights::Takers;
 use crate::weights::set_weights;
 
 // A divided by the weights F and P.
@@ -29,7 +29,7 @@ pub fn divide_all(book: &[u64], category: u64, stage: Stage) -> Parts
     ensures { λ r. ⌜ r ≡ record { freight = freightPart (now (book .entry)) category (sideAt stage); passengers = passengerPart (now (book .entry)) category (sideAt stage) } ⌝ }
 {
     let all = pools::pool(book, category, 0, stage);
-    let activity = weights::activity_among(book, category, weights::FREIGHT);
+    let activity = weights::activity_among(book, category, Takers::Freight);
     let mass = weights::passengers_by_mass(book, category);
     let mut parts = [0u64; 2];
     // Accepted: the weights sum to more than 0, and they and A are within 10^18.
@@ -41,12 +41,12 @@ pub fn divide_all(book: &[u64], category: u64, stage: Stage) -> Parts
 }
 
 // Adds to each share its part of an amount.
-fn deal(book: &[u64], category: u64, codes: Codes, amount: u64, shares: &mut [u64])
+fn deal(book: &[u64], category: u64, takers: Takers, amount: u64, shares: &mut [u64])
     requires { ⌜ sound (now book) ≡ true ⌝ }
-    requires { ⌜ Dealable (now book) category codes amount ⌝ }
+    requires { ⌜ Dealable (now book) category takers amount ⌝ }
     requires { ⌜ length (now shares) ≡ elements (now book) ⌝ }
     requires { ⌜ ((k : ℕ) → at (now shares) k ≤ 3 * largest) ⌝ }
-    ensures { λ _. ⌜ now (shares .exit) ≡ listBelow (elements (now (book .entry))) (λ k. at (now (shares .entry)) k + partAt (now (book .entry)) category codes amount k) ⌝ }
+    ensures { λ _. ⌜ now (shares .exit) ≡ listBelow (elements (now (book .entry))) (λ k. at (now (shares .entry)) k + partAt (now (book .entry)) category takers amount k) ⌝ }
 {
     let count = shares.len();
     let mut space = [0u64; 256];
@@ -54,7 +54,7 @@ fn deal(book: &[u64], category: u64, codes: Codes, amount: u64, shares: &mut [u6
     deal_parts(
         book,
         category,
-        codes,
+        takers,
         amount,
         &mut space[..count],
         &mut parts[..count],
@@ -66,21 +66,21 @@ fn deal(book: &[u64], category: u64, codes: Codes, amount: u64, shares: &mut [u6
 fn deal_parts(
     book: &[u64],
     category: u64,
-    codes: Codes,
+    takers: Takers,
     amount: u64,
     weights: &mut [u64],
     parts: &mut [u64],
     shares: &mut [u64],
 )
     requires { ⌜ sound (now book) ≡ true ⌝ }
-    requires { ⌜ Dealable (now book) category codes amount ⌝ }
+    requires { ⌜ Dealable (now book) category takers amount ⌝ }
     requires { ⌜ (length (now weights) ≡ elements (now book)) × (length (now parts) ≡ elements (now book)) × (length (now shares) ≡ elements (now book)) ⌝ }
     requires { ⌜ ((k : ℕ) → at (now shares) k ≤ 3 * largest) ⌝ }
-    ensures { λ _. ⌜ now (weights .exit) ≡ weightsOf (now (book .entry)) category codes ⌝ }
-    ensures { λ _. ⌜ now (parts .exit) ≡ divided amount (weightsOf (now (book .entry)) category codes) ⌝ }
-    ensures { λ _. ⌜ now (shares .exit) ≡ listBelow (elements (now (book .entry))) (λ k. at (now (shares .entry)) k + partAt (now (book .entry)) category codes amount k) ⌝ }
+    ensures { λ _. ⌜ now (weights .exit) ≡ weightsOf (now (book .entry)) category takers ⌝ }
+    ensures { λ _. ⌜ now (parts .exit) ≡ divided amount (weightsOf (now (book .entry)) category takers) ⌝ }
+    ensures { λ _. ⌜ now (shares .exit) ≡ listBelow (elements (now (book .entry))) (λ k. at (now (shares .entry)) k + partAt (now (book .entry)) category takers amount k) ⌝ }
 {
-    set_weights(book, category, codes, weights);
+    set_weights(book, category, takers, weights);
     // Accepted: where the weights sum to 0 the amount is 0, and both are within 10^18.
     apportion::divide(amount, weights, parts);
     add_parts(parts, shares);
@@ -110,14 +110,8 @@ pub fn set_shares(book: &[u64], category: u64, stage: Stage, shares: &mut [u64])
     let parts = divide_all(book, category, stage);
     let chilled = pools::pool(book, category, 1, stage);
     let frozen = pools::pool(book, category, 2, stage);
-    deal(book, category, weights::FREIGHT, parts.freight, shares);
-    deal(
-        book,
-        category,
-        weights::PASSENGERS,
-        parts.passengers,
-        shares,
-    );
-    deal(book, category, Codes { first: 1, last: 1 }, chilled, shares);
-    deal(book, category, Codes { first: 2, last: 2 }, frozen, shares);
+    deal(book, category, Takers::Freight, parts.freight, shares);
+    deal(book, category, Takers::Passengers, parts.passengers, shares);
+    deal(book, category, Takers::Group(1), chilled, shares);
+    deal(book, category, Takers::Group(2), frozen, shares);
 }

@@ -6,10 +6,10 @@ use Prim.Native.Nat.{ℕ, _≤_, _<_, _*_}
 use native.Mathlib.Nat.{mul-le-mul, eq-zero-or-pos}
 use native.Mathlib.Omega.{arith}
 use lib.Dec.{leb, eqb}
-use borrow.Author.Tests.{leb-true, lt-leb, eqb-true, leb-false, le-leb, eqb-false}
+use borrow.Author.Tests.{leb-true, lt-leb, eqb-true, leb-false, eqb-false}
 use Rattle.apportion.specs.Dividing.{largest}
 use Rattle.book_words.specs.Measures.{between, isCode, isFreight, isPassenger, isAmount, isDistance, isHub, activityOf}
-use Rattle.book_words.proofs.Booleans.{both, and-both, and-false}
+use Rattle.book_words.proofs.Booleans.{both, and-false}
 
 pub between-low : (low high n : ℕ) → between low high n ≡ true → low ≤ n
 between-low low high n e = leb-true low n (both (leb low n) (leb n high) e .0)
@@ -21,10 +21,7 @@ between-high low high n e = leb-true n high (both (leb low n) (leb n high) e .1)
 pub above-zero : (n : ℕ) → eqb n 0 ≡ false → 0 < n
 above-zero n e = ⊎-elim (λ (none : n ≡ 0). absurd (eqb-false n 0 e none)) (λ (l : 0 < n). l) (eq-zero-or-pos n)
 
--- a number in a range, and one that is not
-pub between-inside : (low high n : ℕ) → low ≤ n → n ≤ high → between low high n ≡ true
-between-inside low high n l h = and-both (leb low n) (leb n high) (le-leb low n l) (le-leb n high h)
-
+-- a number that is not in a range
 pub between-outside : (low high n : ℕ) → (n < low) ⊎ (high < n) → between low high n ≡ false
 between-outside low high n =
     ⊎-elim

@@ -3,8 +3,8 @@ use mathlib.Core.Path.{ap, _∙_}
 use borrow.Author.Needs.{needs}
 use Rattle.book_words.specs.declared.records.Category.{Category}
 use Rattle.book_shares.specs.declared.sharing.Parts.{Parts}
+use Rattle.book_shares.specs.declared.weights.Takers.the-variants.{Group, Passengers, Freight}
 use Rattle.book_shares.specs.Dealing.{sideAt, scaleTens}
-use Rattle.book_shares.specs.Sums.{passengers, freight, ofGroup}
 use Rattle.book_words.proofs.Numbered.{category-there}
 use Rattle.book_shares.proofs.Bounds.{activity-limited}
 use Rattle.book_shares.proofs.Results.{activity-to-divide-by, some-passengers, passengers-result, some-freight, freight-result, some-group, group-result}
@@ -21,7 +21,7 @@ quotient-requires : tie.Need-quotient-requires
 quotient-requires c κs =
     let s = c .before .before .before .before in
     rw (c .activity-among .ensures)
-    (some-passengers (s .args .book .now) (s .args .category) (s .args .code) (s .pre .1 .1) (c .before .if1 .taken), activity-limited (s .args .book .now) (s .pre .0) (s .args .category) passengers)
+    (some-passengers (s .args .book .now) (s .args .category) (s .args .code) (s .pre .1 .1) (c .before .if1 .taken), activity-limited (s .args .book .now) (s .pre .0) (s .args .category) Passengers)
 
 returns : tie.Need-returns
 returns c =
@@ -42,7 +42,7 @@ quotient-requires-2 : tie.Need-quotient-requires-2
 quotient-requires-2 c κs =
     let s = c .before .before .before .before .before .before in
     rw (c .activity-among2 .ensures)
-    (some-freight (s .args .book .now) (s .args .category) (s .args .code) (s .pre .1 .1) (c .before .before .before .if1 .left), activity-limited (s .args .book .now) (s .pre .0) (s .args .category) freight)
+    (some-freight (s .args .book .now) (s .args .category) (s .args .code) (s .pre .1 .1) (c .before .before .before .if1 .left), activity-limited (s .args .book .now) (s .pre .0) (s .args .category) Freight)
 
 returns-2 : tie.Need-returns-2
 returns-2 c =
@@ -61,7 +61,7 @@ quotient-requires-3 : tie.Need-quotient-requires-3
 quotient-requires-3 c κs =
     let s = c .before .before .before .before .before .before .before .before .before .before in
     rw (c .activity-among3 .ensures)
-    (some-group (s .args .book .now) (s .args .category) (s .args .code) (s .pre .1 .1) (c .before .before .before .before .before .before .before .if1 .left) (c .before .before .if2 .left), activity-limited (s .args .book .now) (s .pre .0) (s .args .category) (ofGroup (s .args .code)))
+    (some-group (s .args .book .now) (s .args .category) (s .args .code) (s .pre .1 .1) (c .before .before .before .before .before .before .before .if1 .left) (c .before .before .if2 .left), activity-limited (s .args .book .now) (s .pre .0) (s .args .category) (Group (s .args .code)))
 
 add-requires : tie.Need-add-requires
 add-requires c κs = search needs

@@ -1,10 +1,11 @@
 -- `book_shares::sharing::deal_parts` meets its contract: the division is accepted, and no share passes 64 bits. Assumes
 -- nothing.
 use mathlib.Core.List.{List}
-use mathlib.Core.Path.{_∙_, ap, sym}
+use mathlib.Core.Path.{_∙_, ap, sym, _≡_}
 use Prim.Native.Nat.{ℕ, _+_}
 use lib.ListN.{length}
 use borrow.Author.Needs.{needs}
+use Rattle.apportion.specs.Dividing.{divided}
 use Rattle.apportion.specs.Places.{listBelow, at}
 use Rattle.book_words.specs.Book.{elements}
 use Rattle.book_shares.specs.Shares.{weights, partAt}
@@ -13,6 +14,13 @@ use Rattle.book_shares.proofs.Dealt.{amount-divided, dealt-within}
 use Rattle.book_shares.proofs.Shared.{weights-length}
 use Rattle.book_shares.proofs.sharing.deal_parts.Statement.{statement}
 use Rattle.book_shares.proofs.sharing.deal_parts.Tie as tie
+
+-- the parts are those of the definition
+parts-are : (c : tie.After-divide) → c .divide .last .1 .1 .0 ≡ divided (c .before .before .before .before .before .before .before .before .before .before .before .args .amount) (weights (c .before .before .before .before .before .before .before .before .before .before .before .args .book .now) (c .before .before .before .before .before .before .before .before .before .before .before .args .category) (c .before .before .before .before .before .before .before .before .before .before .before .args .takers))
+parts-are c =
+    let s = c .before .before .before .before .before .before .before .before .before .before .before in
+    amount-divided (s .args .book .now) (s .args .category) (s .args .takers) (s .args .amount) (s .pre .0) (s .pre .1 .0)
+    _ (s .args .parts .now) _ (c .before .before .before .before .before .set-weights .ensures) (s .pre .1 .1 .0 .1) (c .divide .ensures .1)
 
 set-weights-requires : tie.Need-set-weights-requires
 set-weights-requires c κs =
@@ -25,11 +33,10 @@ divide-requires c κs = search needs
 add-parts-requires : tie.Need-add-parts-requires
 add-parts-requires c κs =
     let s = c .before .before .before .before .before .before .before .before .before .before .before .before .before .before .before in
-    let ws = s .args .book .now in
-    let parts = amount-divided ws (s .args .category) (s .args .codes) (s .args .amount) (s .pre .0) (s .pre .1 .0) _ (s .args .parts .now) _ (c .before .before .before .before .before .before .before .before .before .set-weights .ensures) (s .pre .1 .1 .0 .1) (c .before .before .before .before .divide .ensures .1) in
-    let long = shares-length (s .args .amount) (weights ws (s .args .category) (s .args .codes)) ∙ weights-length ws (s .args .category) (s .args .codes) in (
+    let parts = parts-are (c .before .before .before .before) in
+    let long = shares-length (s .args .amount) (weights (s .args .book .now) (s .args .category) (s .args .takers)) ∙ weights-length (s .args .book .now) (s .args .category) (s .args .takers) in (
       ap length parts ∙ long ∙ sym (s .pre .1 .1 .0 .2),
-      (λ k. rw parts (dealt-within ws (s .args .category) (s .args .codes) (s .args .amount) (s .pre .1 .0) k), s .pre .1 .1 .1),
+      (λ k. rw parts (dealt-within (s .args .book .now) (s .args .category) (s .args .takers) (s .args .amount) (s .pre .1 .0) k), s .pre .1 .1 .1),
     )
 
 same-length : tie.Need-same-length
@@ -45,14 +52,13 @@ returns : tie.Need-returns
 unfolding partAt
 returns c =
     let s = c .before .before .before .before .before .before .before .before .before .before .before .before .before .before .before .before .before .before in
-    let ws = s .args .book .now in
-    let parts = amount-divided ws (s .args .category) (s .args .codes) (s .args .amount) (s .pre .0) (s .pre .1 .0) _ (s .args .parts .now) _ (c .before .before .before .before .before .before .before .before .before .before .before .before .set-weights .ensures) (s .pre .1 .1 .0 .1) (c .before .before .before .before .before .before .before .divide .ensures .1) in (
+    let parts = parts-are (c .before .before .before .before .before .before .before) in (
       c .before .before .before .before .before .before .before .before .before .before .before .before .set-weights .ensures,
       (
         parts,
         c .before .before .add-parts .ensures
             ∙ ap (λ (n : ℕ). listBelow n (λ k. at (s .args .shares .now) k + at (c .before .before .before .before .before .before .before .divide .last .1 .1 .0) k)) (s .pre .1 .1 .0 .2)
-            ∙ ap (λ (l : List ℕ). listBelow (elements ws) (λ k. at (s .args .shares .now) k + at l k)) parts,
+            ∙ ap (λ (l : List ℕ). listBelow (elements (s .args .book .now)) (λ k. at (s .args .shares .now) k + at l k)) parts,
       ),
     )
 

@@ -7,8 +7,8 @@ use lib.ListN.{length}
 use Rattle.apportion.specs.Dividing.{largest}
 use Rattle.apportion.specs.Places.{at}
 use Rattle.book_words.specs.Book.{elements}
+use Rattle.book_shares.specs.declared.weights.Takers.the-variants.{Group, Freight, Passengers}
 use Rattle.book_shares.specs.Dealing.{sideAt, Dealable}
-use Rattle.book_shares.specs.Sums.{freight, passengers, ofGroup}
 use Rattle.apportion.proofs.Lists.{list-length}
 use Rattle.book_shares.proofs.Closable.{closable, freight-dealable, Closable, passengers-dealable, chilled-dealable, frozen-dealable}
 use Rattle.book_shares.proofs.Dealt.{added-within, part-within, added-four, shares-dealt}
@@ -19,22 +19,22 @@ settled : (s : tie.Start) → Closable (s .args .book .now) (s .args .category)
 settled s = closable (s .args .book .now) (s .args .category) (s .pre .0)
 
 -- what is dealt out
-freight-dealt : (c : tie.After-divide-all) → Dealable (c .before .before .before .args .book .now) (c .before .before .before .args .category) freight (c .divide-all .result .freight)
+freight-dealt : (c : tie.After-divide-all) → Dealable (c .before .before .before .args .book .now) (c .before .before .before .args .category) Freight (c .divide-all .result .freight)
 freight-dealt c =
     let s = c .before .before .before in
     rw (c .divide-all .ensures) (freight-dealable (s .args .book .now) (s .args .category) (sideAt (s .args .stage)) (settled s))
 
-passengers-dealt : (c : tie.After-divide-all) → Dealable (c .before .before .before .args .book .now) (c .before .before .before .args .category) passengers (c .divide-all .result .passengers)
+passengers-dealt : (c : tie.After-divide-all) → Dealable (c .before .before .before .args .book .now) (c .before .before .before .args .category) Passengers (c .divide-all .result .passengers)
 passengers-dealt c =
     let s = c .before .before .before in
     rw (c .divide-all .ensures) (passengers-dealable (s .args .book .now) (s .args .category) (sideAt (s .args .stage)) (settled s))
 
-chilled-dealt : (c : tie.After-pool) → Dealable (c .before .before .before .before .args .book .now) (c .before .before .before .before .args .category) (ofGroup 1) (c .pool .result)
+chilled-dealt : (c : tie.After-pool) → Dealable (c .before .before .before .before .args .book .now) (c .before .before .before .before .args .category) (Group 1) (c .pool .result)
 chilled-dealt c =
     let s = c .before .before .before .before in
     rw (c .pool .ensures) (chilled-dealable (s .args .book .now) (s .args .category) (sideAt (s .args .stage)) (settled s))
 
-frozen-dealt : (c : tie.After-pool2) → Dealable (c .before .before .before .before .before .args .book .now) (c .before .before .before .before .before .args .category) (ofGroup 2) (c .pool2 .result)
+frozen-dealt : (c : tie.After-pool2) → Dealable (c .before .before .before .before .before .args .book .now) (c .before .before .before .before .before .args .category) (Group 2) (c .pool2 .result)
 frozen-dealt c =
     let s = c .before .before .before .before .before in
     rw (c .pool2 .ensures) (frozen-dealable (s .args .book .now) (s .args .category) (sideAt (s .args .stage)) (settled s))

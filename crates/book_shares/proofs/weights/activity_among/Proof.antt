@@ -16,10 +16,10 @@ use Rattle.book_shares.proofs.weights.activity_among.Statement.{stateme
 use Rattle.book_shares.proofs.weights.activity_among.Tie as tie
 
 abbrev Inv-loop : tie.InvT-loop
-Inv-loop book category codes count sum₀ passed₀ sum passed = Adding count passed sum (λ p. among category codes (λ e. e .activity) (elementAt book p))
+Inv-loop book category takers count sum₀ passed₀ sum passed = Adding count passed sum (λ p. among category takers (λ e. e .activity) (elementAt book p))
 
 abbrev μ-loop : tie.MeasureT-loop
-μ-loop book category codes count sum₀ passed₀ sum passed = count - passed
+μ-loop book category takers count sum₀ passed₀ sum passed = count - passed
 
 shared-slice-read-count : tie.Need-shared-slice-read-count Inv-loop μ-loop
 shared-slice-read-count c = omega (arith, sound-counted (c .before .before .args .book .now) (c .before .before .pre))
@@ -53,7 +53,7 @@ loop-again : tie.Need-loop-again Inv-loop μ-loop
 loop-again c =
     let s = c .before .before .before .before .before .before .before in
     let e = c .before .before .element-of .ensures ∙ next-element (s .args .book .now) (c .before .before .before .before .loop .passed) (c .before .before .before .loop-test .taken) in
-    let term = c .before .weight .ensures ∙ ap (among (s .args .category) (s .args .codes) (λ x. x .activity)) e in
+    let term = c .before .weight .ensures ∙ ap (among (s .args .category) (s .args .takers) (λ x. x .activity)) e in
     adding-next _ (c .before .before .before .before .loop .inv) (c .before .before .before .loop-test .taken) (c .add .ensures ∙ ap (λ (x : ℕ). capped (c .before .before .before .before .loop .sum + x)) term)
 
 returns : tie.Need-returns Inv-loop μ-loop
@@ -61,7 +61,7 @@ unfolding activityAmong
 returns c =
     let s = c .before .before .before .before in
     adding-done (c .before .loop .inv) (c .loop-test .left)
-    ∙ capped-small _ (activity-limited (s .args .book .now) (s .pre) (s .args .category) (s .args .codes))
+    ∙ capped-small _ (activity-limited (s .args .book .now) (s .pre) (s .args .category) (s .args .takers))
 
 pub activity-among-spec : {M : Type 1} → statement M
 activity-among-spec =

@@ -7,7 +7,8 @@ use borrow.Author.Needs.{needs}
 use Rattle.book_words.specs.Book.{elementAt}
 use Rattle.book_words.specs.Totals.{capped}
 use Rattle.book_words.specs.declared.records.Element.{Element}
-use Rattle.book_shares.specs.Sums.{among, passengers, passengersByMass}
+use Rattle.book_shares.specs.declared.weights.Takers.the-variants.{Passengers}
+use Rattle.book_shares.specs.Sums.{among, passengersByMass}
 use Rattle.book_words.proofs.Adding.{Adding, adding-start, adding-next, adding-done}
 use Rattle.book_words.proofs.Capping.{capped-more, capped-small}
 use Rattle.book_words.proofs.Facts.{sound-counted}
@@ -17,7 +18,7 @@ use Rattle.book_shares.proofs.weights.passengers_by_mass.Statement.{sta
 use Rattle.book_shares.proofs.weights.passengers_by_mass.Tie as tie
 
 abbrev Inv-loop : tie.InvT-loop
-Inv-loop book category count sum₀ passed₀ sum passed = Adding count passed sum (λ p. among category passengers (λ e. e .amount * 100 * e .distance) (elementAt book p))
+Inv-loop book category count sum₀ passed₀ sum passed = Adding count passed sum (λ p. among category Passengers (λ e. e .amount * 100 * e .distance) (elementAt book p))
 
 abbrev μ-loop : tie.MeasureT-loop
 μ-loop book category count sum₀ passed₀ sum passed = count - passed
@@ -53,7 +54,7 @@ loop-less c = omega arith
 loop-again : tie.Need-loop-again Inv-loop μ-loop
 loop-again c =
     let s = c .before .before .before .before .before .before .before in
-    let measure : Element → ℕ = among (s .args .category) passengers (λ x. x .amount * 100 * x .distance) in
+    let measure : Element → ℕ = among (s .args .category) Passengers (λ x. x .amount * 100 * x .distance) in
     let e = c .before .before .element-of .ensures ∙ next-element (s .args .book .now) (c .before .before .before .before .loop .passed) (c .before .before .before .loop-test .taken) in
     let term = c .before .by-mass .ensures ∙ ap (λ (x : Element). capped (measure x)) e in
     adding-next _ (c .before .before .before .before .loop .inv) (c .before .before .before .loop-test .taken)

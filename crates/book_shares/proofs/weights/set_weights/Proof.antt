@@ -15,10 +15,10 @@ use Rattle.book_shares.proofs.weights.set_weights.Statement.{statement}
 use Rattle.book_shares.proofs.weights.set_weights.Tie as tie
 
 abbrev Inv-loop : tie.InvT-loop
-Inv-loop book category codes weights₀ place₀ weights place = (place ≤ length weights₀) × (length weights ≡ length weights₀) × (weights ≡ filled place (λ p. among category codes (λ e. e .activity) (elementAt book p)) weights₀)
+Inv-loop book category takers weights₀ place₀ weights place = (place ≤ length weights₀) × (length weights ≡ length weights₀) × (weights ≡ filled place (λ p. among category takers (λ e. e .activity) (elementAt book p)) weights₀)
 
 abbrev μ-loop : tie.MeasureT-loop
-μ-loop book category codes weights₀ place₀ weights place = length weights₀ - place
+μ-loop book category takers weights₀ place₀ weights place = length weights₀ - place
 
 loop-holds : tie.Need-loop-holds Inv-loop μ-loop
 loop-holds c = (omega arith, refl, refl)
@@ -54,9 +54,9 @@ loop-again : tie.Need-loop-again Inv-loop μ-loop
 loop-again c =
     let s = c .before .before .before .before .before .before in
     let here : c .before .before .before .loop .place < length (s .args .weights .now) = omega (arith, c .before .before .before .loop .inv .1, c .before .before .loop-test .taken) in
-    let f : ℕ → ℕ = λ p. among (s .args .category) (s .args .codes) (λ e. e .activity) (elementAt (s .args .book .now) p) in
+    let f : ℕ → ℕ = λ p. among (s .args .category) (s .args .takers) (λ e. e .activity) (elementAt (s .args .book .now) p) in
     let e = c .before .element-of .ensures ∙ next-element (s .args .book .now) (c .before .before .before .loop .place) (omega (arith, here, s .pre .1)) in
-    let term = c .weight .ensures ∙ ap (among (s .args .category) (s .args .codes) (λ x. x .activity)) e in (
+    let term = c .weight .ensures ∙ ap (among (s .args .category) (s .args .takers) (λ x. x .activity)) e in (
       omega arith,
       simp length-set (c .before .before .before .loop .inv .1),
       rw (c .before .before .before .loop .inv .2, term) (filled-next (c .before .before .before .loop .place) f (s .args .weights .now) here),
@@ -69,7 +69,7 @@ returns : tie.Need-returns Inv-loop μ-loop
 unfolding weights
 returns c =
     let s = c .before .before .before .before in
-    let f : ℕ → ℕ = λ p. among (s .args .category) (s .args .codes) (λ e. e .activity) (elementAt (s .args .book .now) p) in
+    let f : ℕ → ℕ = λ p. among (s .args .category) (s .args .takers) (λ e. e .activity) (elementAt (s .args .book .now) p) in
     c .before .loop .inv .2 ∙ filled-whole (c .before .loop .place) (elements (s .args .book .now)) f (s .args .weights .now) (omega (arith, c .before .loop .inv .0, c .before .loop .inv .1, c .loop-test .left, s .pre .1)) (s .pre .1)
 
 pub set-weights-spec : {M : Type 1} → statement M
