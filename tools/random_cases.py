@@ -98,23 +98,25 @@ def close_all(cases):
         cases.intensities(number)
 
 
+def play_list(cases, rng, count, next_call):
+    """Plays so many calls, closes what can be closed and dumps all."""
+    for _ in range(count):
+        play_random(cases, rng, *next_call())
+    close_all(cases)
+    cases.dump_all()
+
+
 def lists_in_range(cases, rng):
     for scale in (4, 10, 20, 24, 28, 32, 40, LARGE, LARGE, LARGE):
         cases.new_book(*[1 + rng.randrange(4)
                          for _ in range(1 + rng.randrange(5))])
-        for number in range(200):
-            play_random(cases, rng, *random_call(cases, rng, scale))
-        close_all(cases)
-        cases.dump_all()
+        play_list(cases, rng, 200, lambda: random_call(cases, rng, scale))
 
 
 def wild_lists(cases, rng):
     for _ in range(6):
         cases.new_book(1, 2, 3, 4)
-        for number in range(240):
-            play_random(cases, rng, *wild_call(cases, rng))
-        close_all(cases)
-        cases.dump_all()
+        play_list(cases, rng, 240, lambda: wild_call(cases, rng))
 
 
 def lists_with_damage(cases, rng):

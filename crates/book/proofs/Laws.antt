@@ -1,6 +1,7 @@
--- The laws of the calls, for the crates above; those of close are of `book_shares`. Of each call: what an accepted one changes, and that it keeps all else (`Fresh`, and
--- `CategoryAdded`, `EntryAdded`, `EntryStruck`, `ElementAdded` of `Views`); that a refused one leaves the list as it was; that
--- either leaves a sound book sound. Assumes nothing.
+-- The laws of the calls that write, for the crates above; those of close are proved in `book_shares` and handed on. Of each call:
+-- what an accepted one changes, and that it keeps all else (`Fresh`; `CategoryAdded`, `EntryAdded`, `EntryStruck`, `ElementAdded` of
+-- `Views`; `CategoryClosed` of `Closed`); that a refused one leaves the list as it was; that either leaves a sound book sound.
+-- Assumes nothing.
 use mathlib.Core.Bool.{true, cond}
 use mathlib.Core.List.{List}
 use mathlib.Core.Logic.{⊎-elim}

@@ -13,6 +13,7 @@ use Rattle.book_shares.specs.declared.weights.Takers.the-variants.{Group
 use Rattle.book_shares.specs.Shares.{freightPart, passengerPart}
 use Rattle.book_shares.specs.Sums.{activityAmong, pool}
 
+-- ground 3: a code of an intensity is "0, 1, 2 or 100"
 abbrev pub isIntensityCode : ℕ → Bool
 isIntensityCode code = isFreight code || eqb code 100
 
