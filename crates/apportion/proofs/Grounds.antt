@@ -1,9 +1,10 @@
 -- Laws of ordered grounds. Assumes nothing.
 use mathlib.Core.Bool.{Bool, cond, false, true, _||_, true≢false}
+use mathlib.Core.List.{List, _++_, [], _∷_}
 use mathlib.Core.Path.{_≡_, refl}
 use Prim.Native.Nat.{ℕ, suc, zero}
 use native.Mathlib.Omega.{arith}
-use Rattle.apportion.specs.Grounds.{accepted}
+use Rattle.apportion.specs.Grounds.{accepted, Ground, firstOf}
 
 -- where no ground holds, the first does not, and none of the others does. `rest` is the number that the others give
 pub first-none : (n : ℕ) (holds : Bool) (rest : ℕ) → cond holds (suc n) rest ≡ 0 → (holds ≡ false) × (rest ≡ 0)
@@ -20,6 +21,16 @@ passed n e = rw e
 
 pub stopped : {holds : Bool} (n rest : ℕ) → holds ≡ true → cond holds n rest ≡ n
 stopped n rest e = rw e
+
+-- a ground that holds comes before all later ones
+pub first-prefix : (gs hs : List Ground) → (firstOf gs ≡ 0 → ⊥) → firstOf (gs ++ hs) ≡ firstOf gs
+first-prefix [] hs some = absurd (some refl)
+first-prefix (g ∷ gs) hs some = go (g .1) (first-prefix gs hs) some
+  where
+    go : (t : Bool) → ((firstOf gs ≡ 0 → ⊥) → firstOf (gs ++ hs) ≡ firstOf gs) → (cond t (g .0) (firstOf gs) ≡ 0 → ⊥)
+        → cond t (g .0) (firstOf (gs ++ hs)) ≡ cond t (g .0) (firstOf gs)
+    go true later h = refl
+    go false later h = later h
 
 -- an accepted call leaves the new, a refused one the old
 pub accepted-new : {A : Type 0} (n : ℕ) (new old : A) → n ≡ 0 → accepted n new old ≡ new

@@ -2,13 +2,14 @@
 use mathlib.Core.Bool.{Bool, _||_, not, _&&_, false, true, cond}
 use mathlib.Core.List.{List}
 use mathlib.Core.Logic.{⊎-elim}
-use mathlib.Core.Path.{_≡_, _∙_, refl, ap}
-use Prim.Native.Nat.{ℕ, _<_, _*_, _^_, _+_, _≤_, zero, suc}
+use mathlib.Core.Path.{_≡_, _∙_, refl, ap, sym}
+use Prim.Native.Nat.{ℕ, _<_, _*_, _^_, _+_, zero, suc}
 use native.Mathlib.Nat.{add-zero}
 use native.Mathlib.Omega.{arith}
 use lib.Dec.{eqb, ltb}
+use lib.ListN.{take, drop}
 use borrow.Author.Tests.{eq-eqb, ne-eqb, not-false, ltb-false}
-use Rattle.apportion.specs.Grounds.{accepted}
+use Rattle.apportion.specs.Grounds.{accepted, firstOf}
 use Rattle.book_words.specs.Book.{categoryOf, categories, unnumbered, isClosed}
 use Rattle.book_words.specs.Measures.{nearest, between, isHub}
 use Rattle.book_words.specs.Soundness.{sound}
@@ -16,11 +17,11 @@ use Rattle.book_words.specs.Totals.{Side, capped, operation, provision}
 use Rattle.book_shares.specs.declared.intensities.Intensity.{Intensity}
 use Rattle.book_shares.specs.declared.weights.Takers.the-variants.{Group, Passengers, Freight}
 use Rattle.book_shares.specs.Dealing.{ToDivideBy, scaleTens}
-use Rattle.book_shares.specs.Intensities.{lacksActivity, intensityOf, scale, mostResult, intensityRefusal, isIntensityCode, passesIntensity, intensityReply}
+use Rattle.book_shares.specs.Intensities.{lacksActivity, intensityOf, scale, mostResult, intensityRefusal, isIntensityCode, passesIntensity, intensityReply, intensityGrounds}
 use Rattle.book_shares.specs.Shares.{passengerPart, freightPart}
 use Rattle.book_shares.specs.Sums.{activityAmong, pool}
-use Rattle.apportion.proofs.Grounds.{or-none, first-none}
-use Rattle.book_words.proofs.Capping.{capped-both, capped-small, capped-over}
+use Rattle.apportion.proofs.Grounds.{or-none, first-none, passed, first-prefix}
+use Rattle.book_words.proofs.Capping.{capped-both, capped-over}
 use Rattle.book_words.proofs.Kept.{same-or-not}
 use Rattle.book_words.proofs.Ranges.{above-zero}
 use Rattle.book_shares.proofs.Bounds.{mass-tenth}
@@ -80,38 +81,35 @@ module _ (ws : List ℕ) (category code : ℕ) where
           rw (g, j) (capped-both (nearest (amount * 10 ^ tens) total) (nearest (more * 10 ^ tens) share)) in
           rw (← e, ← f, ← h, ← i, ← unit, ne-eqb code 100 other, ne-eqb code 0 grouped) (k ∙ sum)
 
-  -- where no ground holds
-  pub record Accepted : Type 0 where
+  -- where none of the grounds before 10 holds
+  pub record Allowed : Type 0 where
     pub fine : sound ws ≡ true
     pub numbered : between 1 (categories ws) category ≡ true
     pub some-activity : lacksActivity ws category code ≡ false
-    pub within : (side : Side) → intensityOf ws category code side ≤ mostResult
+    pub only-ten : intensityRefusal ws category code ≡ cond (passesIntensity ws category code) 10 0
 
-  pub intensity-accepted : intensityRefusal ws category code ≡ 0 → Accepted
+  pub intensity-allowed : firstOf (take 5 (intensityGrounds ws category code)) ≡ 0 → Allowed
   unfolding intensityRefusal
-  intensity-accepted e =
+  intensity-allowed e =
       let one = first-none 0 (not (sound ws)) _ e in
       let two = first-none 1 (unnumbered (categories ws) category) _ (one .1) in
       let three = first-none 2 (not (isIntensityCode code)) _ (two .1) in
       let five = first-none 4 (not (isClosed ws category)) _ (three .1) in
       let nine = first-none 8 (lacksActivity ws category code) _ (five .1) in
-      let ten = first-none 9 (passesIntensity ws category code) _ (nine .1) in
-      let past = or-none (ltb mostResult (intensityOf ws category code operation)) (ltb mostResult (intensityOf ws category code provision)) (ten .0) in
       record {
         fine = not-false (sound ws) (one .0);
         numbered = not-false (between 1 (categories ws) category) (two .0);
         some-activity = nine .0;
-        within = most past;
+        only-ten = passed 1 (one .0) ∙ passed 2 (two .0) ∙ passed 3 (three .0) ∙ passed 5 (five .0) ∙ passed 9 (nine .0);
       }
-    where
-      most : (ltb mostResult (intensityOf ws category code operation) ≡ false) × (ltb mostResult (intensityOf ws category code provision) ≡ false)
-          → (side : Side) → intensityOf ws category code side ≤ mostResult
-      most p operation = ltb-false mostResult (intensityOf ws category code operation) (p .0)
-      most p provision = ltb-false mostResult (intensityOf ws category code provision) (p .1)
 
-  -- a result of an accepted call is not capped
-  pub uncapped : Accepted → (side : Side) (r : ℕ) → r ≡ capped (intensityOf ws category code side) → r ≡ intensityOf ws category code side
-  uncapped a side r e = e ∙ capped-small (intensityOf ws category code side) (omega (arith, a .within side))
+  -- where one of them does, it gives the number
+  pub earlier-refused : (n : ℕ) → n ≡ firstOf (take 5 (intensityGrounds ws category code)) → (n ≡ 0 → ⊥) → n ≡ intensityRefusal ws category code
+  unfolding intensityRefusal
+  earlier-refused n e ne =
+      let early = take 5 (intensityGrounds ws category code) in
+      let late = drop 5 (intensityGrounds ws category code) in
+      e ∙ sym (first-prefix early late (λ z. ne (e ∙ z)))
 
   -- ground 10, from the capped results
   pub ten : (a b : ℕ) → a ≡ capped (intensityOf ws category code operation) → b ≡ capped (intensityOf ws category code provision)
@@ -123,6 +121,10 @@ module _ (ws : List ℕ) (category code : ℕ) where
         capped-over mostResult (intensityOf ws category code operation) (omega arith),
         capped-over mostResult (intensityOf ws category code provision) (omega arith),
       )
+
+  -- a result within 10^15 is not capped
+  pub uncapped : (side : Side) (r : ℕ) → ltb mostResult r ≡ false → r ≡ capped (intensityOf ws category code side) → r ≡ intensityOf ws category code side
+  uncapped side r h e = omega (arith, ltb-false mostResult r h, e)
 
   -- the reply of a refused call, and that of an accepted one
   pub reply-refused : (n : ℕ) → n ≡ intensityRefusal ws category code → (n ≡ 0 → ⊥) → record { refusal = n; operation = 0; provision = 0 } ≡ intensityReply ws category code

@@ -2,13 +2,15 @@
 ghost use mathlib.Core.Bool.{true, false};
 ghost use mathlib.Core.Path.{_≡_};
 ghost use Prim.Native.Nat.{_<_, _≤_, _*_, _^_};
+ghost use lib.ListN.{take};
 ghost use Rattle.apportion.specs.Dividing.{largest};
+ghost use Rattle.apportion.specs.Grounds.{firstOf};
 ghost use Rattle.book_words.specs.Book.{categories};
 ghost use Rattle.book_words.specs.Measures.{between, nearest};
 ghost use Rattle.book_words.specs.Soundness.{sound};
 ghost use Rattle.book_words.specs.Totals.{capped};
 ghost use Rattle.book_shares.specs.Dealing.{sideAt, scaleTens};
-ghost use Rattle.book_shares.specs.Intensities.{intensityReply, intensityRefusal, lacksActivity, intensityOf};
+ghost use Rattle.book_shares.specs.Intensities.{intensityReply, intensityGrounds, lacksActivity, intensityOf};
 use crate::pools;
 use crate::pools::Stage;
 use crate::sharing;
@@ -34,23 +36,35 @@ pub fn intensity_sound(book: &[u64], category: u64, code: u64) -> Intensity
 {
     let refusal = refusal_number(book, category, code);
     if refusal != 0 {
-        return Intensity {
-            refusal,
-            operation: 0,
-            provision: 0,
-        };
+        return refused(refusal);
+    }
+    let operation = result(book, category, code, Stage::Operation);
+    let provision = result(book, category, code, Stage::Provision);
+    if (MOST_RESULT < operation) | (MOST_RESULT < provision) {
+        return refused(10);
     }
     Intensity {
         refusal: 0,
-        operation: result(book, category, code, Stage::Operation),
-        provision: result(book, category, code, Stage::Provision),
+        operation,
+        provision,
     }
 }
 
-// The number of the first ground that holds, or 0.
+// A refusal returns its number with zeros.
+fn refused(refusal: u64) -> Intensity
+    ensures { λ r. ⌜ r ≡ record { refusal = refusal; operation = 0; provision = 0 } ⌝ }
+{
+    Intensity {
+        refusal,
+        operation: 0,
+        provision: 0,
+    }
+}
+
+// The number of the first ground before 10 that holds, or 0.
 fn refusal_number(book: &[u64], category: u64, code: u64) -> u64
     requires { ⌜ sound (now book) ≡ true ⌝ }
-    ensures { λ r. ⌜ r ≡ intensityRefusal (now (book .entry)) category code ⌝ }
+    ensures { λ r. ⌜ r ≡ firstOf (take 5 (intensityGrounds (now (book .entry)) category code)) ⌝ }
 {
     if !((1 <= category) & (category <= book[book_words::CATEGORIES])) {
         return 2;
@@ -64,11 +78,6 @@ fn refusal_number(book: &[u64], category: u64, code: u64) -> u64
     }
     if lacks_activity(book, category, code) {
         return 9;
-    }
-    let operation = result(book, category, code, Stage::Operation);
-    let provision = result(book, category, code, Stage::Provision);
-    if (MOST_RESULT < operation) | (MOST_RESULT < provision) {
-        return 10;
     }
     0
 }

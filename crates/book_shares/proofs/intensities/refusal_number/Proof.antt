@@ -1,30 +1,29 @@
 -- `book_shares::intensities::refusal_number` meets its contract: each return is the ground of its own test, after those
 -- that did not hold. Assumes nothing.
-use mathlib.Core.Bool.{not, true, false}
+use mathlib.Core.Bool.{not}
+use mathlib.Core.List.{List}
 use mathlib.Core.Path.{_≡_, ap, _∙_, sym}
 use Prim.Native.Nat.{ℕ}
 use native.Mathlib.Omega.{arith}
-use lib.ListN.{drop}
+use lib.ListN.{drop, take}
 use borrow.Author.Needs.{needs}
-use borrow.Author.Tests.{not-false}
-use Rattle.apportion.specs.Grounds.{firstOf}
-use Rattle.book_words.specs.Book.{categories}
-use Rattle.book_words.specs.Measures.{between}
-use Rattle.book_words.specs.Soundness.{sound}
-use Rattle.book_shares.specs.Intensities.{intensityRefusal, intensityGrounds, lacksActivity}
+use Rattle.apportion.specs.Grounds.{firstOf, Ground}
+use Rattle.book_shares.specs.Intensities.{intensityGrounds}
 use Rattle.apportion.proofs.Grounds.{stopped, passed}
 use Rattle.book_words.proofs.Facts.{sound-counted}
 use Rattle.book_words.proofs.Numbered.{was-closed, was-open}
-use Rattle.book_shares.proofs.Results.{ten}
 use Rattle.book_shares.proofs.intensities.refusal_number.Statement.{statement}
 use Rattle.book_shares.proofs.intensities.refusal_number.Tie as tie
 
--- the first so many grounds do not hold
+-- the grounds before 10
+abbrev grounds : tie.Start → List Ground
+grounds s = take 5 (intensityGrounds (s .args .book .now) (s .args .category) (s .args .code))
+
+-- the first so many do not hold
 abbrev Past : ℕ → tie.Start → Type 0
-Past k s = intensityRefusal (s .args .book .now) (s .args .category) (s .args .code) ≡ firstOf (drop k (intensityGrounds (s .args .book .now) (s .args .category) (s .args .code)))
+Past k s = firstOf (grounds s) ≡ firstOf (drop k (grounds s))
 
 past-1 : (s : tie.Start) → Past 1 s
-unfolding intensityRefusal
 past-1 s = passed 1 (ap not (s .pre))
 
 past-2 : (c : tie.Else1) → Past 2 (c .before .before .before)
@@ -41,11 +40,6 @@ past-4 c =
 
 past-5 : (c : tie.Else4) → Past 5 (c .before .before .before .before .before .before .before .before .before)
 past-5 c = past-4 (c .before .before) ∙ passed 9 (sym (c .before .lacks-activity .ensures) ∙ c .if4 .left)
-
-asked : (c : tie.Else4) → (sound (c .before .before .before .before .before .before .before .before .before .args .book .now) ≡ true) × ((between 1 (categories (c .before .before .before .before .before .before .before .before .before .args .book .now)) (c .before .before .before .before .before .before .before .before .before .args .category) ≡ true) × (lacksActivity (c .before .before .before .before .before .before .before .before .before .args .book .now) (c .before .before .before .before .before .before .before .before .before .args .category) (c .before .before .before .before .before .before .before .before .before .args .code) ≡ false))
-asked c =
-    let s = c .before .before .before .before .before .before .before .before .before in
-    (s .pre, (not-false (between 1 (categories (s .args .book .now)) (s .args .category)) (c .before .before .before .before .before .before .if1 .left), sym (c .before .lacks-activity .ensures) ∙ c .if4 .left))
 
 shared-slice-read-if1 : tie.Need-shared-slice-read-if1
 shared-slice-read-if1 c = omega (arith, sound-counted (c .before .before .args .book .now) (c .before .before .pre))
@@ -71,21 +65,8 @@ lacks-activity-requires c κs = search needs
 returns-4 : tie.Need-returns-4
 returns-4 c = sym (past-4 (c .before .before) ∙ stopped 9 _ (sym (c .before .lacks-activity .ensures) ∙ c .if4 .taken))
 
-result-requires : tie.Need-result-requires
-result-requires c κs = asked c
-
-result-requires-2 : tie.Need-result-requires-2
-result-requires-2 c κs = asked (c .before)
-
 returns-5 : tie.Need-returns-5
-returns-5 c =
-    let s = c .before .before .before .before .before .before .before .before .before .before .before .before in
-    sym (past-5 (c .before .before .before) ∙ stopped 10 0 (ten (s .args .book .now) (s .args .category) (s .args .code) _ _ (c .before .before .result .ensures) (c .before .result2 .ensures) ∙ c .if5 .taken))
-
-returns-6 : tie.Need-returns-6
-returns-6 c =
-    let s = c .before .before .before .before .before .before .before .before .before .before .before .before in
-    sym (past-5 (c .before .before .before) ∙ passed 10 (ten (s .args .book .now) (s .args .category) (s .args .code) _ _ (c .before .before .result .ensures) (c .before .result2 .ensures) ∙ c .if5 .left))
+returns-5 c = sym (past-5 c)
 
 pub refusal-number-spec : {M : Type 1} → statement M
 refusal-number-spec =
@@ -98,7 +79,4 @@ refusal-number-spec =
     returns-3
     lacks-activity-requires
     returns-4
-    result-requires
-    result-requires-2
-    returns-5
-    returns-6)
+    returns-5)
