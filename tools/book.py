@@ -135,6 +135,10 @@ class Book:
         return (number in self.kinds
                 and self.categories[number - 1].closed == 1)
 
+    def is_open(self, number):
+        """A quoted element is in no category, so in no open one."""
+        return number in self.kinds and not self.is_closed(number)
+
     def entries_of(self, category):
         return [entry for entry in self.entries if entry.category == category]
 
@@ -224,6 +228,19 @@ def sound_book(words):
     in open categories are 0, and in each closed category the shares sum to
     the category's unstruck entries, operation and provision each."
     """
+    words = words[:LENGTH]
+    if words != LAST[0]:
+        LAST[:] = words, sound_book_of(words)
+    return LAST[1]
+
+
+# The words that were looked at last, and their book: the next call often
+# finds the same.
+LAST = [None, None]
+
+
+def sound_book_of(words):
+    """The same of exactly 2,404 words."""
     if words[0] != MARK:
         return None
     if any(words[listing.count] > listing.most for listing in LISTINGS):
@@ -278,8 +295,7 @@ def sums_are_within_limits(book):
 def open_shares_are_0(book):
     return all(element.operation == 0 and element.provision == 0
                for element in book.elements
-               if element.category != QUOTED
-               and not book.is_closed(element.category))
+               if book.is_open(element.category))
 
 
 def closed_shares_are_right(book):

@@ -4,9 +4,11 @@ import random
 
 import call_cases
 import closing_cases
+import conservation_cases
 import intensity_cases
 import random_cases
 import soundness_cases
+import statement_cases
 from book_writer import SORTS, BookCases
 
 SEED = 2404
@@ -20,6 +22,7 @@ ANSWERS = {
     "enrol": (0, 1, 2, 3, 4, 6, 7, 8, 10),
     "quote": (0, 1, 3, 7, 8, 10),
     "close": (0, 1, 2, 4, 9),
+    "statement": (0, 1, 3),
     "intensity": (0, 1, 2, 3, 5, 9, 10),
 }
 
@@ -51,24 +54,49 @@ def sorts_of_closings():
             if sort + more != "passengers with groups"]
 
 
+def added(counts, before):
+    """What came to the counts since."""
+    return {key: number - before.get(key, 0)
+            for key, number in counts.items() if number > before.get(key, 0)}
+
+
+def add_random(cases, add_them):
+    """Adds random cases; every sort of closing must be among them."""
+    before = dict(cases.closings)
+    add_them()
+    closings = added(cases.closings, before)
+    for sort in sorts_of_closings():
+        if closings.get(sort, 0) < 5:
+            raise SystemExit("few random closings of sort: " + sort)
+
+
+def add_long_lists(cases, possible):
+    """The long lists; every answer but 1 must be among theirs."""
+    before = dict(cases.answers)
+    add_random(cases, lambda: conservation_cases.add(cases))
+    cases.in_lists = added(cases.answers, before)
+    missing = [key for key in possible
+               if key[1] != 1 and key not in cases.in_lists]
+    if missing:
+        raise SystemExit("no call of a long list that gives: %r" % missing)
+
+
 def add(plain_cases):
     """Adds the cases of the book; what they tested, as counts."""
     cases = BookCases(plain_cases)
     rng = random.Random(SEED)
+    possible = [(name, number) for name, numbers in ANSWERS.items()
+                for number in numbers]
     call_cases.add(cases)
     closing_cases.add(cases)
     intensity_cases.add(cases)
+    statement_cases.add(cases)
     soundness_cases.add(cases, rng)
-    before = dict(cases.closings)
-    random_cases.add(cases, rng)
-    for sort in sorts_of_closings():
-        if cases.closings.get(sort, 0) - before.get(sort, 0) < 5:
-            raise SystemExit("few random closings of sort: " + sort)
+    add_random(cases, lambda: random_cases.add(cases, rng))
+    add_long_lists(cases, possible)
     # The cases reckoned by hand have the same outcome after all the others.
     call_cases.reckoned_by_hand(cases)
 
-    possible = [(name, number) for name, numbers in ANSWERS.items()
-                for number in numbers]
     missing = [key for key in possible if key not in cases.answers]
     missing += [key for key in pairs_of_grounds() if key not in cases.pairs]
     if missing:

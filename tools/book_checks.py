@@ -4,12 +4,14 @@ import random
 
 import book
 import book_cases
-import book_writer
+import broken_lists
 import calls
 import closing_checks
+import conservation_checks
 import player
 import records
-from second_way import Tally, is_sound_by_words, second_way
+import tally_checks
+from second_way import Lists, is_sound_by_words, second_way
 
 SEED = 64
 LARGEST = 2 ** 64 - 1
@@ -19,8 +21,9 @@ LARGEST = 2 ** 64 - 1
 
 WRITTEN_OUT = (
     # An array of zeros is no sound book.
-    ("2 1; 3 1 0 1 1 1; 4 1; 5 1 1 0 1 1; 6 1 0 1 1 1 1; 7 1; 9 1 0; 14 0 4",
-     "1 0; 1 0; 1; 1 0; 1 0; 1; 1 0 0; 0 0 0 0"),
+    ("2 1; 3 1 0 1 1 1; 4 1; 5 1 1 0 1 1; 6 1 0 1 1 1 1; 7 1; 8 1; 9 1 0;"
+     "14 0 4",
+     "1 0; 1 0; 1; 1 0; 1 0; 1; 1 0 0 0 0 0; 1 0 0; 0 0 0 0"),
     ("1; 14 0 6; 4 0; 4 1", "0; 14083 0 0 0 0 0; 2; 2"),
     # The example of document 01, without its closing.
     ("1; 2 1; 3 1 0 12000000 3220000 560000; 5 1 7 0 1000 300000;"
@@ -58,6 +61,27 @@ WRITTEN_OUT = (
     ("12 2404 5; 13 2403; 1; 13 2404; 1; 2 4; 13 0; 2 4; 13 3000; 2 3;"
      "14 0 8; 14 2403 3; 14 0 0; 14 3000 0",
      "1; 0; 0 1; 1 0; 0 2; 14083 2 0 0 4 0 3 0; 0 5 0; ; "),
+    # Statements of the example, before and after its closing: "4 1 0
+    # 28980000000000 5040000000000 34020000000000" and "7 2 0 9691000000000
+    # 1685000000000 11376000000000". Chains that are none, and unused ones.
+    ("1; 2 1; 3 1 0 12000000 3220000 560000; 5 1 7 0 1000 300000;"
+     "5 1 4 0 3000 300000; 6 7 0 1000 500000 62000 10000; 8 7; 8 4; 7 1; 8 4;"
+     "8 7; 8 0; 8 1; 8 6; 8 8; 8 10000; 8 10001; 8 18446744073709551615;"
+     "12 0 0; 8 7; 8 0; 12 0 14083; 13 2403; 8 7; 13 2404; 8 7",
+     "0; 0 1; 0 1; 0 1; 0 2; 0 3; 0 2 1 31000000000 5000000000 36000000000;"
+     "0 1 1 0 0 0; 0; 0 1 0 28980000000000 5040000000000 34020000000000;"
+     "0 2 0 9691000000000 1685000000000 11376000000000; 3 0 0 0 0 0;"
+     "0 0 0 0 0 0; 0 0 0 0 0 0; 0 0 0 0 0 0; 0 0 0 0 0 0; 3 0 0 0 0 0;"
+     "3 0 0 0 0 0; 1 0 0 0 0 0; 1 0 0 0 0 0; 1 0 0 0 0 0;"
+     "0 2 0 9691000000000 1685000000000 11376000000000"),
+    # A statement adds the words of the shares as they are: 7 and 1 of 8, 5
+    # and 1 of 6 become 2 and 6, 6 and 0. An element that is not counted adds
+    # nothing.
+    ("1; 2 1; 3 1 0 1 8 6; 5 1 1 0 7 1; 5 1 2 0 1 1; 7 1; 8 1; 8 2; 12 362 2;"
+     "12 370 6; 12 363 6; 12 371 0; 8 1; 8 2; 12 373 2; 12 378 9; 8 2;"
+     "14 362 2; 14 370 2; 14 372 8",
+     "0; 0 1; 0 1; 0 1; 0 2; 0; 0 1 0 7 5 12; 0 1 0 1 1 2; 0 1 0 2 6 8;"
+     "0 1 0 6 0 6; 0 1 0 6 0 6; 2 6; 6 0; 0 2 0 0 0 0 9 0"),
     # Limits: 10^18 in either amount, 10^17.
     ("1; 2 1; 3 1 0 1000000000000 1000000 0; 3 1 0 1 1 0; 3 1 0 1 0 1;"
      "6 1 0 1 1 500 0; 6 1 0 1 1 499 500; 4 1; 6 1 0 1 1 500 0;"
@@ -77,9 +101,8 @@ WRITTEN_OUT = (
     ("14 1 18446744073709551615", "bad record 1"),
     ("12 18446744073709551615 1", "bad record 1"),
     ("12 2999 18446744073709551615; 14 2999 1", "18446744073709551615"),
-    ("8; 1", "bad record 1"),
-    ("1; 8 1; 1", "0; bad record 2"),
     ("15; 1", "bad record 1"),
+    ("1; 15 1; 1", "0; bad record 2"),
 )
 
 
@@ -94,10 +117,8 @@ def written_out(check):
 class BothWays:
     """Takes the place of the cases: plays each record by both ways."""
 
-    NAMES = {operation: name
-             for name, operation in book_writer.OPERATIONS.items()}
-
     def __init__(self, check):
+        self.records = []
         self.player = player.Player()
         self.check = check
 
@@ -106,10 +127,11 @@ class BothWays:
         before = list(state.words)
         words, after = before[:state.lent], before[state.lent:]
         arguments += (0,) * (7 - len(arguments))
-        played = self.player.play(player.RECORD.pack(operation, *arguments))
-        if operation in self.NAMES:
-            name = self.NAMES[operation]
-            arguments = arguments[:calls.CALLS[name].arguments]
+        self.records.append(player.RECORD.pack(operation, *arguments))
+        played = self.player.play(self.records[-1])
+        if operation in player.CALLS:
+            name = player.CALLS[operation]
+            arguments = player.used_arguments(name, arguments)
             numbers = second_way(name, words, arguments)
             self.check(played == numbers, "the numbers by both ways", name,
                        arguments, played, numbers)
@@ -122,7 +144,20 @@ class BothWays:
 
 
 def cases_by_both_ways(check):
-    book_cases.add(BothWays(check))
+    """All cases of the book; then demand 3 from the lines of the long lists,
+    and that it is caught when it does not hold."""
+    both = BothWays(check)
+    spans = book_cases.add(both).lists
+    lists = []
+    for records, lines in conservation_checks.lists_among(
+            both.records, both.player.lines, spans):
+        told = conservation_checks.check_list(records, lines)
+        lists.append((records, lines, told))
+        tally_checks.same_elements(check, told)
+    # The first list is empty, the last asks for every chain.
+    check(lists[0][2].tally.elements == {}, "the empty list")
+    check(len(dict(lists[-1][2].statements)) == 10_000, "every chain")
+    broken_lists.run(check, lists[1:-1])
 
 
 # Random calls.
@@ -145,11 +180,12 @@ USUAL = {
               (1, 500, 905_000, 40_000_000), (0, 1, 499, 500, 10 ** 9),
               (0, 1, 499, 500, 10 ** 9)),
     "close": ((1, 2, 3, 4),),
+    "statement": ((1, 2, 3, 10_000),),
     "intensity": ((1, 2, 3, 4), (0, 1, 2, 100)),
 }
 APPENDING = ("open", "post", "post", "post", "strike", "enrol", "enrol",
              "enrol", "enrol", "quote")
-NAMES = APPENDING * 5 + ("close", "intensity", "intensity", "intensity")
+NAMES = APPENDING * 5 + ("close",) + ("statement", "intensity") * 3
 
 
 def random_call(rng, strange, names=NAMES):
@@ -170,22 +206,23 @@ def random_calls(check):
         words = [rng.getrandbits(64) for _ in range(2412)]
         after = words[2404:]
         check(calls.make("fresh", words) == [0], "fresh")
-        tally = Tally()
+        lists = Lists()
         for kind in (1, 2, 3, 4):
             if number % 2 == 0:
                 calls.make("open", words, kind)
-                tally.open(kind)
+                lists.open(kind)
         for step in range(400 if number < 4 else 150):
             if step % 70 == 69 and number % 4 == 3:
-                close_anyhow(tally, words, rng)
+                close_anyhow(lists, words, rng)
             name, arguments = random_call(rng, 40 if number < 8 else 12)
             before = list(words)
             numbers = calls.make(name, words, *arguments)
             case = (name, arguments, numbers)
             met.add((name, numbers[0]))
-            check(numbers == list(getattr(tally, name)(*arguments)),
-                  "the tally's numbers", case)
-            check(words[:2404] == tally.words(), "the tally's words", case)
+            check(numbers == list(getattr(lists, name)(*arguments)),
+                  "the numbers of the lists", case)
+            check(words[:2404] == lists.words(), "the words of the lists",
+                  case)
             check(words[2404:] == after, "the words after the book", case)
             check_change(check, name, numbers, before, words, case)
             if name == "close" and numbers == [0]:
@@ -199,20 +236,20 @@ def random_calls(check):
         ("open", (0, 3, 8)), ("post", (0, 2, 3, 4, 6, 7, 10)),
         ("strike", (0, 2, 4)), ("enrol", (0, 2, 3, 4, 6, 7, 10)),
         ("quote", (0, 3, 7, 10)), ("close", (0, 2, 4, 9)),
-        ("intensity", (0, 2, 3, 5, 9)),
+        ("statement", (0, 3)), ("intensity", (0, 2, 3, 5, 9)),
     ):
         for number in numbers:
             check((name, number) in met, "not met", name, number)
 
 
-def close_anyhow(tally, words, rng):
+def close_anyhow(lists, words, rng):
     """Closes a category that has elements, by writing its words: shares with
     the right sums that no closing gives."""
-    for number in range(1, len(tally.categories) + 1):
-        if tally.category(number)[1] == 0 and any(
-                element[0] == number for element in tally.elements):
-            tally.close_anyhow(number, rng)
-            words[:2404] = tally.words()
+    for number in range(1, len(lists.categories) + 1):
+        if lists.category(number)[1] == 0 and any(
+                element[0] == number for element in lists.elements):
+            lists.close_anyhow(number, rng)
+            words[:2404] = lists.words()
             return
 
 
@@ -226,8 +263,8 @@ def check_change(check, name, numbers, before, words, case):
         return
     if name == "close":
         return
-    if name == "intensity":
-        check(changed == [], "an intensity changes no word", case)
+    if name in ("statement", "intensity"):
+        check(changed == [], "it changes no word", case)
         return
     if name == "strike":
         check(len(changed) == 1 and words[changed[0]] == 1
@@ -246,18 +283,18 @@ def check_change(check, name, numbers, before, words, case):
 # Damaged books.
 
 def some_books(rng):
-    """Sound books with records of every sort, from the tally."""
+    """Sound books with records of every sort, from lists."""
     found = []
     for number in range(4):
-        tally = Tally()
+        lists = Lists()
         for kind in (1, 2, 3, 4, 1, 3):
-            tally.open(kind)
+            lists.open(kind)
         for _ in range(60 if number == 0 else 300):
             name, arguments = random_call(rng, 100, APPENDING)
-            getattr(tally, name)(*arguments)
+            getattr(lists, name)(*arguments)
         for category in (1, 3):
-            tally.close_anyhow(category, rng)
-        found.append(tally.words())
+            lists.close_anyhow(category, rng)
+        found.append(lists.words())
     return found
 
 
@@ -303,8 +340,8 @@ def check_unsound(check, words):
         ("open", (1,)), ("open", (0,)), ("post", (1, 0, 0, 0, 0)),
         ("strike", (0,)), ("enrol", (5, 1, 0, 1, 1)), ("enrol", (0,) * 5),
         ("quote", (1, 0, 1, 1, 0, 0)), ("quote", (0,) * 6),
-        ("close", (1,)), ("close", (0,)), ("intensity", (1, 0)),
-        ("intensity", (0, 3)),
+        ("close", (1,)), ("close", (0,)), ("statement", (1,)),
+        ("statement", (0,)), ("intensity", (1, 0)), ("intensity", (0, 3)),
     ):
         numbers = calls.make(name, words, *arguments)
         check(numbers[0] == 1 and set(numbers[1:]) <= {0},
@@ -327,6 +364,8 @@ def lengths(check):
             check(calls.make("quote", sound, 1, 0, 1, 1, 0, 0) == [1, 0],
                   "short", length)
             check(calls.make("close", sound, 1) == [1], "short", length)
+            check(calls.make("statement", sound, 1) == [1] + [0] * 5,
+                  "short", length)
             check(calls.make("intensity", sound, 1, 0) == [1, 0, 0],
                   "short", length)
         else:
@@ -361,6 +400,7 @@ def full_lists(check):
 def run(check):
     written_out(check)
     closing_checks.run(check)
+    tally_checks.by_hand(check)
     lengths(check)
     full_lists(check)
     random_calls(check)

@@ -19,16 +19,7 @@ FAR = (2 ** 8, 2 ** 8 + 1, 2 ** 16 + 1, 2 ** 32, 2 ** 32 + 1, 2 ** 63,
 SOUND = 2
 UNSOUND = 1
 
-OPERATIONS = {
-    "fresh": player.FRESH,
-    "open": player.OPEN,
-    "post": player.POST,
-    "strike": player.STRIKE,
-    "enrol": player.ENROL,
-    "quote": player.QUOTE,
-    "close": player.CLOSE,
-    "intensity": player.INTENSITY,
-}
+OPERATIONS = {name: operation for operation, name in player.CALLS.items()}
 
 # The sorts of closings; each may have something for a group too.
 SORTS = ("freight", "passengers", "both", "hub")
@@ -60,15 +51,21 @@ class BookCases:
         self.answers = {}   # (call, refusal number) -> how many
         self.pairs = {}     # (call, ground, later ground) -> how many
         self.closings = {}  # sort of accepted closing -> how many
+        self.lists = []     # for each long list: played() before and after
+        self.in_lists = {}  # the same as answers, of the long lists alone
 
     # Calls.
 
-    def call(self, name, *arguments, gives=0):
-        """Makes a call; `gives` is its refusal number, None for any."""
+    def call(self, name, *arguments, gives=0, shows=None):
+        """Makes a call; `gives` is its refusal number, None for any, and
+        `shows` what else its answer is known to be, None for unknown."""
         numbers = self.cases.record(OPERATIONS[name], *arguments)
         if gives is not None and numbers[0] != gives:
             raise AssertionError("%s%r gives %d, not %d"
                                  % (name, arguments, numbers[0], gives))
+        if shows is not None and numbers[1:] != list(shows):
+            raise AssertionError("%s%r shows %r, not %r"
+                                 % (name, arguments, numbers[1:], shows))
         count(self.answers, (name, numbers[0]))
         if name == "close" and numbers[0] == 0:
             count(self.closings, sort_of_closing(self.words, arguments[0]))
@@ -95,13 +92,12 @@ class BookCases:
     def close(self, category, gives=0):
         return self.call("close", category, gives=gives)
 
+    def statement(self, chain, gives=0, shows=None):
+        return self.call("statement", chain, gives=gives, shows=shows)
+
     def intensity(self, category, code, gives=0, shows=None):
-        """`shows` is what the answer is known to be, None for unknown."""
-        numbers = self.call("intensity", category, code, gives=gives)
-        if shows is not None and numbers[1:] != list(shows):
-            raise AssertionError("intensity %d %d shows %r, not %r"
-                                 % (category, code, numbers[1:], shows))
-        return numbers
+        return self.call("intensity", category, code, gives=gives,
+                         shows=shows)
 
     def intensities(self, category):
         """All four, whatever each gives."""
@@ -121,8 +117,14 @@ class BookCases:
         self.strike(1, gives=gives)
         self.enrol(1, 7, 2, 8, 9, gives=gives)
         self.quote(10_000, 1, 11, 12, 13, 14, gives=gives)
+        self.statement(7, gives=gives)
         self.close(1, gives=gives)
+        self.statement(7, gives=gives)
         self.intensity(1, 2, gives=gives)
+
+    def played(self):
+        """How many records were played and lines printed so far."""
+        return self.cases.player.played, len(self.cases.player.lines)
 
     # The array.
 

@@ -21,6 +21,7 @@ def before_fresh(cases):
     cases.enrol(1, 1, 0, 1, 1, gives=1)
     cases.quote(1, 0, 1, 1, 1, 1, gives=1)
     cases.close(1, gives=1)
+    cases.statement(1, gives=1)
     cases.intensity(1, 0, gives=1)
     cases.poke(0, book.MARK)
     cases.is_sound()
@@ -88,7 +89,8 @@ def unused_arguments(cases):
         (player.FRESH,), (player.OPEN, 3), (player.POST, 1, 0, 5, 6, 7),
         (player.STRIKE, 1), (player.ENROL, 1, 1, 100, 2, 3),
         (player.QUOTE, 1, 1, 1, 1, 1, 1), (player.CLOSE, 1),
-        (player.INTENSITY, 1, 100), (player.POKE, 2999, 8),
+        (player.STATEMENT, 1), (player.INTENSITY, 1, 100),
+        (player.POKE, 2999, 8),
         (player.LEND, 2404), (player.DUMP, 0, 40), (player.DUMP, 356, 17),
         (player.APPEND_WEIGHT, 3), (player.DIVIDE, 7, 1),
         (player.LEND, 3000), (player.DUMP, 0, 40), (player.DUMP, 2999, 1),
@@ -117,10 +119,18 @@ def reckoned_by_hand(cases):
     cases.enrol(1, 4, 0, 3000, 300_000)
     cases.quote(7, 0, 1000, 500_000, 62_000, 10_000)
     cases.dump_book()
+    cases.statement(7, shows=(2, 1, 31_000_000_000, 5_000_000_000,
+                              36_000_000_000))
     cases.close(1)
     cases.shares_are(1, (9_660_000_000_000, 28_980_000_000_000),
                      (1_680_000_000_000, 5_040_000_000_000))
     cases.intensity(1, 0, shows=(32_200_000, 5_600_000))
+    # "4 1 0 28980000000000 5040000000000 34020000000000" and "7 2 0
+    # 9691000000000 1685000000000 11376000000000"
+    cases.statement(4, shows=(1, 0, 28_980_000_000_000, 5_040_000_000_000,
+                              34_020_000_000_000))
+    cases.statement(7, shows=(2, 0, 9_691_000_000_000, 1_685_000_000_000,
+                              11_376_000_000_000))
     cases.dump_book()
     # "Kind 3, A 9, freight activity 100, one head each of codes 100 and 400
     # over 1 m: 3, 1, 5."

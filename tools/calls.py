@@ -13,8 +13,8 @@ from book import (
     FACTORS, FLAGS, FREIGHT_CODES, GROUPS, INTENSITIES, KINDS, LENGTH, MARK,
     MASSES, MOST_ACTIVITY, MOST_EMISSIONS, PASSENGER_CODES, QUANTITIES,
     QUOTED, Book, Category, Element, Entry, activity_of, amounts_of, append,
-    distances_of, emissions_of, limited_activity, sound_book, unsuited_code,
-    unsuited_group, whole_activity, word)
+    distances_of, emissions_of, limited_activity, sound_book, total,
+    unsuited_code, unsuited_group, whole_activity, word)
 from closing import (
     INTENSITY_CODES, MOST_INTENSITY, Sums, divisors, intensity_of,
     is_without_weight, shares_by_number)
@@ -157,6 +157,12 @@ def grounds_of_close(book, category):
 
 
 @with_ground_1
+def grounds_of_statement(book, chain):
+    if chain not in CHAINS:
+        yield NO_SUCH_VALUE
+
+
+@with_ground_1
 def grounds_of_intensity(book, category, code):
     if not book.has_category(category):
         yield NO_SUCH_NUMBER
@@ -265,6 +271,19 @@ def close(words, category):
     return []
 
 
+def statement(words, chain):
+    """"counted and added over the elements of that chain alone, elements,
+    waiting (those in open categories), operation, provision, total
+    (operation plus provision); zeros for an unused chain".
+    """
+    book = sound_book(words)
+    own = [element for element in book.elements if element.chain == chain]
+    waiting = [element for element in own if book.is_open(element.category)]
+    operation, provision = (total(own, amount) for amount in AMOUNTS)
+    return [len(own), len(waiting), operation, provision,
+            operation + provision]
+
+
 def intensity(words, category, code):
     # "returns operation and provision"
     sums = Sums(Book(words), category)
@@ -284,6 +303,7 @@ CALLS = {
     "enrol": Call(5, grounds_of_enrol, enrol, 1),
     "quote": Call(6, grounds_of_quote, quote, 1),
     "close": Call(1, grounds_of_close, close, 0),
+    "statement": Call(1, grounds_of_statement, statement, 5),
     "intensity": Call(2, grounds_of_intensity, intensity, 2),
 }
 

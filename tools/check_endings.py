@@ -39,15 +39,17 @@ def dump(first, count):
 
 
 # A book with a record of each sort whose category is closed, its words, and
-# an intensity.
+# statements and an intensity.
 BOOK = (
     record(player.FRESH) + record(player.OPEN, 3)
     + record(player.POST, 1, 1, 5, 6, 7) + record(player.STRIKE, 1)
     + record(player.POST, 1, 0, 5, 6, 7)
     + record(player.ENROL, 1, 1, 100, 2, 3)
     + record(player.ENROL, 1, 1, 0, 4, 5)
-    + record(player.QUOTE, 1, 1, 1000, 1, 2, 3) + record(player.CLOSE, 1)
-    + dump(0, 47) + dump(356, 25) + record(player.INTENSITY, 1, 100)
+    + record(player.QUOTE, 1, 1, 1000, 1, 2, 3)
+    + record(player.STATEMENT, 1) + record(player.CLOSE, 1)
+    + record(player.STATEMENT, 1) + dump(0, 47) + dump(356, 25)
+    + record(player.INTENSITY, 1, 100)
 )
 
 
@@ -120,13 +122,14 @@ def endings():
         add("operation %d first" % number, record(number, 1, 1) + THREE)
         add("operation %d after a division" % number,
             THREE + record(number) + THREE)
-    # 8 and 15 are none yet; 7 and 9 are calls.
-    for number in (8, 15):
-        add("operation %d after a book" % number,
-            BOOK + record(number, 1) + BOOK)
+    # 15 is none yet; 7, 8 and 9 are calls.
+    add("operation 15 after a book", BOOK + record(15, 1) + BOOK)
     add("a second closing", BOOK + record(player.CLOSE, 1) + dump(0, 47))
     add("a closing and an intensity of none",
         BOOK + record(player.CLOSE, 2) + record(player.INTENSITY, 2, 0))
+    for chain in (0, 2, 10_001, 2 ** 32 + 1, LARGEST):
+        add("a statement of chain %d" % chain,
+            BOOK + record(player.STATEMENT, chain) + THREE)
     add("unknown operation after a weight",
         weight(1) + record(99) + division(10, 1))
     add("two unknown operations", THREE + record(0) + record(99))
@@ -155,7 +158,8 @@ def endings():
             weight(1) * 3 + division(10, 3)[:left])
         add("%d bytes of a dump after a book" % left,
             BOOK + dump(0, 47)[:left])
-        for operation in (player.OPEN, player.CLOSE, player.INTENSITY):
+        for operation in (player.OPEN, player.CLOSE, player.STATEMENT,
+                          player.INTENSITY):
             add("%d bytes of call %d after a book" % (left, operation),
                 BOOK + record(operation, 1)[:left])
     add("cut short after an unknown operation",

@@ -3,7 +3,8 @@
 import random
 
 import calls
-from second_way import Tally, is_sound_by_words
+from exact_shares import check_exact_shares
+from second_way import Lists, is_sound_by_words
 
 SEED = 15
 
@@ -108,44 +109,17 @@ def check_closing(check, before, words, category):
     check(is_sound_by_words(words), "sound after a closing", category)
 
 
-def check_exact_shares(check, elements, pools, place):
-    """Each share is less than 3 µg from the exact one, over whole numbers.
-
-    "Freight of activity a in group g: A×a/(F+P), plus B×a/S if g is 1 or 2
-    [...]. Passengers of activity c: A×P×c/((F+P)×C)."
-    """
-    by_group = [sum(element[5] for element in elements if element[2] == group)
-                for group in (0, 1, 2)]
-    freight = sum(by_group)
-    heads = [element for element in elements if element[2] > 2]
-    p = sum(100 * element[3] * element[4] for element in heads)
-    c = sum(element[5] for element in heads)
-    for element in elements:
-        code, activity, share = element[2], element[5], element[place]
-        if code == 0:
-            above, below = pools[0] * activity, freight + p
-        elif code < 3:
-            s = by_group[code]
-            above = pools[0] * activity * s + pools[code] * activity * (
-                freight + p)
-            below = (freight + p) * s
-        else:
-            above, below = pools[0] * p * activity, (freight + p) * c
-        check(abs(share * below - above) < 3 * below,
-              "less than 3 from the exact share", element, pools)
-
-
 # Random books.
 
 def random_book(rng):
-    """A tally with some categories, entries and elements; groups that are
+    """Lists with some categories, entries and elements; groups that are
     posted to most often have elements."""
     def by_bits(most):
         return rng.getrandbits(64) >> (64 - rng.randrange(most + 1))
 
-    tally = Tally()
+    lists = Lists()
     for _ in range(1 + rng.randrange(5)):
-        tally.open((1, 2, 3, 3, 4)[rng.randrange(5)])
+        lists.open((1, 2, 3, 3, 4)[rng.randrange(5)])
     few = rng.randrange(2) == 0  # few values, so that remainders are equal
     bits = rng.randrange(3, 31)
 
@@ -153,29 +127,29 @@ def random_book(rng):
         return 1 + (rng.randrange(3) if few else min(by_bits(bits), most - 1))
 
     for _ in range(1 + rng.randrange(rng.randrange(4, 80))):
-        category = 1 + rng.randrange(len(tally.categories))
-        kind = tally.category(category)[0]
+        category = 1 + rng.randrange(len(lists.categories))
+        kind = lists.category(category)[0]
         passengers = kind == 2 or kind == 3 and rng.randrange(2) == 0
         code = ((100, 400, 1000, 100 + rng.randrange(901))[rng.randrange(4)]
                 if passengers else rng.randrange(3))
         if rng.randrange(9) == 0:
-            tally.quote(1, rng.randrange(2), measure(10 ** 9),
+            lists.quote(1, rng.randrange(2), measure(10 ** 9),
                         measure(40_000_000), 62_000, 10_000)
-        tally.enrol(category, 1 + rng.randrange(9), code,
+        lists.enrol(category, 1 + rng.randrange(9), code,
                     measure(10 ** 6 if passengers else 10 ** 9),
                     0 if kind == 4 else measure(40_000_000))
     for _ in range(rng.randrange(14)):
-        category = 1 + rng.randrange(len(tally.categories))
-        codes = [element[2] for element in tally.elements
+        category = 1 + rng.randrange(len(lists.categories))
+        codes = [element[2] for element in lists.elements
                  if element[0] == category and element[2] < 3]
         group = codes[rng.randrange(len(codes))] if codes else 0
-        if tally.category(category)[0] != 2 and rng.randrange(20) == 0:
+        if lists.category(category)[0] != 2 and rng.randrange(20) == 0:
             group = rng.randrange(3)
-        tally.post(category, group, 1 + min(by_bits(30), 10 ** 9),
+        lists.post(category, group, 1 + min(by_bits(30), 10 ** 9),
                    min(by_bits(34), 10 ** 8), min(by_bits(34), 10 ** 8))
         if rng.randrange(6) == 0:
-            tally.strike(len(tally.entries))
-    return tally
+            lists.strike(len(lists.entries))
+    return lists
 
 
 def random_closings(check):
@@ -184,44 +158,44 @@ def random_closings(check):
     met = {}
     given = set()
     for _ in range(500):
-        tally = random_book(rng)
-        words = tally.words() + [9]
-        for category in range(1, len(tally.categories) + 1):
+        lists = random_book(rng)
+        words = lists.words() + [9]
+        for category in range(1, len(lists.categories) + 1):
             before = list(words)
             numbers = calls.make("close", words, category)
-            case = (category, numbers, tally.entries, tally.elements)
-            check(numbers == list(tally.close(category)), "close", case)
-            check(words == tally.words() + [9], "the words", case)
+            case = (category, numbers, lists.entries, lists.elements)
+            check(numbers == list(lists.close(category)), "close", case)
+            check(words == lists.words() + [9], "the words", case)
             if numbers == [0]:
                 check_closing(check, before, words, category)
-                sort = sort_of_closing(tally, category)
+                sort = sort_of_closing(lists, category)
                 met[sort] = met.get(sort, 0) + 1
-            given |= check_intensities(check, tally, words, category)
+            given |= check_intensities(check, lists, words, category)
     check(given == {0, 3, 5, 9, 10}, "grounds of intensity", given)
     for sort in ("freight", "passengers", "mixed", "groups", "mixed, groups"):
         check(met.get(sort, 0) > 50, "closings of a sort", sort, met)
 
 
-def sort_of_closing(tally, category):
-    kinds = {element[2] > 2 for element in tally.elements
+def sort_of_closing(lists, category):
+    kinds = {element[2] > 2 for element in lists.elements
              if element[0] == category}
     sort = ("mixed" if len(kinds) == 2
             else "passengers" if kinds == {True} else "")
-    if any(sum(sums[1:]) > 0 for sums in tally.entry_sums(category)):
+    if any(sum(sums[1:]) > 0 for sums in lists.entry_sums(category)):
         sort += ", groups" if sort else "groups"
     return sort or "freight"
 
 
-def check_intensities(check, tally, words, category):
+def check_intensities(check, lists, words, category):
     """The refusal numbers that were given."""
     before = list(words)
     given = set()
     for code in (0, 1, 2, 100, 3, 101):
         numbers = calls.make("intensity", words, category, code)
         given.add(numbers[0])
-        check(numbers == list(tally.intensity(category, code)),
-              "intensity", category, code, numbers, tally.entries,
-              tally.elements)
+        check(numbers == list(lists.intensity(category, code)),
+              "intensity", category, code, numbers, lists.entries,
+              lists.elements)
     check(words == before, "an intensity changes no word")
     return given
 
@@ -231,9 +205,9 @@ def other_shares(check):
     shares."""
     rng = random.Random(SEED)
     for _ in range(60):
-        tally = random_book(rng)
-        words = tally.words()
-        for category in range(1, len(tally.categories) + 1):
+        lists = random_book(rng)
+        words = lists.words()
+        for category in range(1, len(lists.categories) + 1):
             if calls.make("close", words, category) != [0]:
                 continue
             found = [calls.make("intensity", words, category, code)

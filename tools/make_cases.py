@@ -454,6 +454,8 @@ def main(arguments):
         for number in numbers:
             print("%6d %s gives %d" % (of_book.answers[name, number], name,
                                        number))
+    for (name, number), count in sorted(of_book.in_lists.items()):
+        print("%6d %s in a long list gives %d" % (count, name, number))
     print("%6d pairs of grounds in order" % len(of_book.pairs))
     for sort in book_cases.sorts_of_closings():
         print("%6d closings: %s" % (of_book.closings[sort], sort))

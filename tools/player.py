@@ -36,12 +36,16 @@ class State:
 # Each operation takes the state and the seven arguments. It returns the
 # numbers of its line, or None where it prints nothing.
 
+def used_arguments(name, arguments):
+    """Those of the seven that a call uses."""
+    return arguments[:calls.CALLS[name].arguments]
+
+
 def call_of_book(name):
     """The operation that makes a call on the lent words."""
     def operation(state, arguments):
         lent = state.words[:state.lent]
-        numbers = calls.make(name, lent,
-                             *arguments[:calls.CALLS[name].arguments])
+        numbers = calls.make(name, lent, *used_arguments(name, arguments))
         state.words[:state.lent] = lent
         return numbers
     return operation
@@ -88,6 +92,7 @@ def dump(state, arguments):
 
 
 FRESH, OPEN, POST, STRIKE, ENROL, QUOTE, CLOSE = 1, 2, 3, 4, 5, 6, 7
+STATEMENT = 8
 INTENSITY = 9
 DIVIDE = 10
 APPEND_WEIGHT = 11
@@ -95,15 +100,21 @@ POKE = 12
 LEND = 13
 DUMP = 14
 
+# The operations that are calls of a book.
+CALLS = {
+    FRESH: "fresh",
+    OPEN: "open",
+    POST: "post",
+    STRIKE: "strike",
+    ENROL: "enrol",
+    QUOTE: "quote",
+    CLOSE: "close",
+    STATEMENT: "statement",
+    INTENSITY: "intensity",
+}
+
 OPERATIONS = {
-    FRESH: call_of_book("fresh"),
-    OPEN: call_of_book("open"),
-    POST: call_of_book("post"),
-    STRIKE: call_of_book("strike"),
-    ENROL: call_of_book("enrol"),
-    QUOTE: call_of_book("quote"),
-    CLOSE: call_of_book("close"),
-    INTENSITY: call_of_book("intensity"),
+    **{operation: call_of_book(name) for operation, name in CALLS.items()},
     DIVIDE: divide,
     APPEND_WEIGHT: append_weight,
     POKE: poke,

@@ -32,22 +32,27 @@ def random_measure(rng, numbers, scale):
     return max(numbers[0], min(number, numbers[-1], 2 ** scale))
 
 
-def random_call(cases, rng, scale):
-    """A call with arguments in their ranges."""
+def random_call(cases, rng, scale, scale_of_posts=None):
+    """A call with arguments in their ranges. Posts have the same scale when
+    none is given for them."""
     def measure(numbers):
         return random_measure(rng, numbers, scale)
+
+    def measure_of_post(numbers):
+        return random_measure(rng, numbers, scale_of_posts or scale)
 
     words = cases.words
     category = 1 + rng.randrange(max(1, words[1] % 17))
     kind = words[book.place(CATEGORIES, category)]
     chain = one_of(rng, (1, 2, 3, 10_000, 1 + rng.randrange(10_000)))
-    sort = rng.randrange(110)
+    sort = rng.randrange(118)
     if sort < 4:
-        return "open", (1 + rng.randrange(4),)
+        return "open", (one_of(rng, (1, 2, 3, 3, 4)),)
     if sort < 26:
         group = 0 if kind == 2 else rng.randrange(3)
-        return "post", (category, group, measure(book.QUANTITIES),
-                        measure(book.FACTORS), measure(book.FACTORS))
+        return "post", (category, group, measure_of_post(book.QUANTITIES),
+                        measure_of_post(book.FACTORS),
+                        measure_of_post(book.FACTORS))
     if sort < 36:
         return "strike", (1 + rng.randrange(max(1, words[2] % 65)),)
     if sort < 80:
@@ -62,7 +67,9 @@ def random_call(cases, rng, scale):
                          measure(book.INTENSITIES))
     if sort < 103:
         return "close", (category,)
-    return "intensity", (category, one_of(rng, INTENSITY_CODES))
+    if sort < 110:
+        return "intensity", (category, one_of(rng, INTENSITY_CODES))
+    return "statement", (chain,)
 
 
 WILD = (0, 1, 2, 3, 4, 5, 15, 16, 17, 63, 64, 65, 99, 100, 101, 255, 256, 257,
@@ -72,9 +79,9 @@ WILD = (0, 1, 2, 3, 4, 5, 15, 16, 17, 63, 64, 65, 99, 100, 101, 255, 256, 257,
         2 ** 32, 2 ** 32 + 1, 2 ** 63, LARGEST - 1, LARGEST)
 
 
-def wild_call(cases, rng):
+def wild_call(cases, rng, scales=(20, 30, LARGE)):
     """A call with up to two arguments that are any numbers."""
-    name, arguments = random_call(cases, rng, one_of(rng, (20, 30, LARGE)))
+    name, arguments = random_call(cases, rng, one_of(rng, scales))
     arguments = list(arguments)
     for _ in range(rng.randrange(3)):
         place = rng.randrange(len(arguments))
@@ -162,7 +169,11 @@ def lists_of_closings(cases, rng):
                            random_measure(rng, book.FACTORS, 30))
             if step % 9 == 8:
                 cases.strike(1 + rng.randrange(cases.words[2]), gives=None)
+        for chain in (1, 2, 3, 4):
+            cases.statement(chain)
         close_all(cases)
+        for chain in (1, 2, 3, 4):
+            cases.statement(chain)
         cases.dump_book()
 
 

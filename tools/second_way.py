@@ -113,7 +113,7 @@ def is_sound_by_words(words):
 
 # The second way of the calls: lists beside the book, and running sums.
 
-class Tally:
+class Lists:
     """Takes nothing from a book. A record is a list of its words."""
 
     def __init__(self):
@@ -299,6 +299,23 @@ class Tally:
         self.categories[number - 1][1] = 1
         return (0,)
 
+    def statement(self, chain):
+        """Running sums, also of the total."""
+        if chain == 0 or chain > 10_000:
+            return 3, 0, 0, 0, 0, 0
+        # 0, of the quoted ones, is not among the open categories.
+        still_open = {number for number, category
+                      in enumerate(self.categories, 1) if category[1] == 0}
+        count = waiting = operation = provision = both = 0
+        for element in self.elements:
+            if element[1] == chain:
+                count += 1
+                waiting += 1 if element[0] in still_open else 0
+                operation += element[6]
+                provision += element[7]
+                both += element[6] + element[7]
+        return 0, count, waiting, operation, provision, both
+
     def intensity(self, number, code):
         kind, closed = self.category(number)
         f, p, c, s1, s2 = self.weights(number)[1]
@@ -351,11 +368,32 @@ def second_way(name, words, arguments):
         for index in range(2404):
             words[index] = 0 if index > 0 else 14083
         return [0]
-    if len(words) < 2404 or not is_sound_by_words(words):
-        return {"strike": [1], "close": [1], "intensity": [1, 0, 0]}.get(
-            name, [1, 0])
-    tally = Tally()
-    tally.read(words)
-    numbers = getattr(tally, name)(*arguments)
-    tally.write(words)
+    if words[:2404] != KEPT[0]:
+        KEPT[:] = words[:2404], lists_of(words)
+    lists = KEPT[1]
+    if lists is None:
+        # Open, post, enrol and quote give a number.
+        return {"strike": [1], "close": [1], "intensity": [1, 0, 0],
+                "statement": [1, 0, 0, 0, 0, 0]}.get(name, [1, 0])
+    numbers = getattr(lists, name)(*arguments)
+    # A statement and an intensity leave the words alone.
+    if name not in ("statement", "intensity"):
+        lists.write(words)
+        if numbers[0] == 0:
+            # They are those of other words now.
+            KEPT[:] = None, None
     return list(numbers)
+
+
+# The words that were read last, and their lists: the next call often finds
+# the same.
+KEPT = [None, None]
+
+
+def lists_of(words):
+    """The lists of a sound book, otherwise None."""
+    if len(words) < 2404 or not is_sound_by_words(words):
+        return None
+    lists = Lists()
+    lists.read(words)
+    return lists

@@ -449,6 +449,7 @@ def every_word(cases, rng):
         cases.quote(1, 0, 1, 1, 1, 1, gives=1)
         cases.open(1, gives=1)
         cases.close(1, gives=1)
+        cases.statement(1, gives=1)
         cases.intensity(5, 0, gives=1)
         cases.poke(index, value)
     cases.is_sound()

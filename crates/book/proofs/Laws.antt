@@ -1,8 +1,8 @@
--- The laws of the calls that write, for the crates above; those of close are proved in `book_shares` and handed on. Of each call:
+-- The laws of the calls for the crates above; those of close are proved in `book_shares` and handed on. Of each call:
 -- what an accepted one changes, and that it keeps all else (`Fresh`; `CategoryAdded`, `EntryAdded`, `EntryStruck`, `ElementAdded` of
 -- `Views`; `CategoryClosed` of `Closed`); that a refused one leaves the list as it was; that either leaves a sound book sound.
 -- Assumes nothing.
-use mathlib.Core.Bool.{true, cond}
+use mathlib.Core.Bool.{true, false, cond}
 use mathlib.Core.List.{List}
 use mathlib.Core.Logic.{⊎-elim}
 use mathlib.Core.Path.{_≡_, _∙_, ap, refl, sym}
@@ -16,12 +16,13 @@ use borrow.Author.Tests.{le-ltb, lt-ltb, ne-eqb}
 use Rattle.apportion.specs.Dividing.{largest}
 use Rattle.apportion.specs.Places.{at, listBelow}
 use Rattle.book_words.specs.Book.{mark, bookLength, categories, entries, elements, categoryOf, entryAt}
-use Rattle.book_words.specs.Measures.{isKind}
+use Rattle.book_words.specs.Measures.{isKind, isChain}
 use Rattle.book_words.specs.Soundness.{sound, categoryFine, entryFine, elementFine}
 use Rattle.book_words.specs.Totals.{allUnstruck, sharesOf, activities, operation, provision, Side, emitted, unstruck, shareOf}
 use Rattle.book_words.specs.declared.records.Element.{Element}
 use Rattle.book_words.specs.declared.records.Entry.{Entry}
 use Rattle.book.specs.Calls.{cleared, freshRefusal, freshBook, openRefusal, openBook, postRefusal, postBook, postedEntry, strikeRefusal, strikeBook, enrolRefusal, enrolBook, enrolledElement, quoteRefusal, quoteBook, quotedElement}
+use Rattle.book.specs.Statements.{refusedStatement, statementBy, statementRefusal, statementReply}
 use Rattle.apportion.proofs.Grounds.{refused-old}
 use Rattle.apportion.proofs.Lists.{filled, filled-length, list-length, list-at}
 use Rattle.book_words.proofs.Booleans.{and-both, cond-same}
@@ -260,3 +261,17 @@ module _ (ws : List ℕ) where
         within : Quoted ws chain adjust mass distance operationIntensity provisionIntensity → (s : Side) → emitted ws s + shareOf s quote-element ≤ largest
         within ok operation = ok .operation-within
         within ok provision = ok .provision-within
+
+  -- statement: an accepted one is made by all elements of the book, a refused one is zeros
+  module _ (chain : ℕ) where
+    pub statement-unsound : sound ws ≡ false → statementReply ws chain ≡ refusedStatement 1
+    unfolding statementReply statementRefusal
+    statement-unsound unsound = rw unsound
+
+    pub statement-unknown : sound ws ≡ true → isChain chain ≡ false → statementReply ws chain ≡ refusedStatement 3
+    unfolding statementReply statementRefusal
+    statement-unknown fine unknown = rw (fine, unknown)
+
+    pub statement-accepted : sound ws ≡ true → isChain chain ≡ true → statementReply ws chain ≡ statementBy ws (elements ws) chain
+    unfolding statementReply statementRefusal
+    statement-accepted fine known = rw (fine, known)

@@ -4,3 +4,4 @@ pub mod Refusing
 pub mod Accepting
 pub mod Keeping
 pub mod Laws
+pub mod Walking

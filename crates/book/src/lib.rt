@@ -8,6 +8,7 @@ mod opening;
 mod posting;
 mod quoting;
 mod replies;
+mod statements;
 mod striking;
 
 pub use book_shares::Intensity;
@@ -25,5 +26,8 @@ pub use posting::post_sound;
 pub use quoting::quote;
 pub use quoting::quote_sound;
 pub use replies::Reply;
+pub use replies::Statement;
+pub use statements::statement;
+pub use statements::statement_sound;
 pub use striking::strike;
 pub use striking::strike_sound;

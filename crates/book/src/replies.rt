@@ -1,6 +1,8 @@
-// What a call that returns a record's number answers.
+// What calls answer.
 ghost use mathlib.Core.Path.{_≡_};
+ghost use Rattle.book.specs.Statements.{refusedStatement};
 
+// What a call that returns a record's number answers.
 pub struct Reply {
     // 0 where the call is accepted.
     pub refusal: u64,
@@ -13,4 +15,31 @@ pub fn refused(refusal: u64) -> Reply
     ensures { λ r. ⌜ r ≡ record { refusal = refusal; number = 0 } ⌝ }
 {
     Reply { refusal, number: 0 }
+}
+
+// What a statement answers.
+pub struct Statement {
+    // 0 where the call is accepted; where it is refused, all else is 0.
+    pub refusal: u64,
+    // How many elements the chain has, and how many of them are in open categories.
+    pub elements: u64,
+    pub waiting: u64,
+    // Their shares, in micrograms.
+    pub operation: u64,
+    pub provision: u64,
+    pub total: u64,
+}
+
+// The same of a statement.
+pub fn no_statement(refusal: u64) -> Statement
+    ensures { λ r. ⌜ r ≡ refusedStatement refusal ⌝ }
+{
+    Statement {
+        refusal,
+        elements: 0,
+        waiting: 0,
+        operation: 0,
+        provision: 0,
+        total: 0,
+    }
 }

@@ -11,3 +11,5 @@ pub mod Views
 pub mod Wholes
 pub mod Numbered
 pub mod Kept
+pub mod Keys
+pub mod Handed

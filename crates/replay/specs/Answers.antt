@@ -1,4 +1,4 @@
--- Operations 1 to 7 and 9: what a call of the book prints, and what it leaves of the lent words. Assumes nothing.
+-- Operations 1 to 9: what a call of the book prints, and what it leaves of the lent words. Assumes nothing.
 use Prim.Native.Nat.{ℕ}
 use mathlib.Core.Bool.{cond}
 use mathlib.Core.List.{List, [], _∷_}
@@ -7,7 +7,9 @@ use Rattle.book_shares.specs.declared.intensities.Intensity.{Intensity}
 use Rattle.book_shares.specs.Closing.{closeRefusal, closeBook}
 use Rattle.book_shares.specs.Intensities.{intensityReply}
 use Rattle.book.specs.declared.replies.Reply.{Reply}
+use Rattle.book.specs.declared.replies.Statement.{Statement}
 use Rattle.book.specs.Calls.{freshRefusal, freshBook, openReply, openBook, postReply, postBook, strikeRefusal, strikeBook, enrolReply, enrolBook, quoteReply, quoteBook}
+use Rattle.book.specs.Statements.{statementReply}
 use Rattle.replay.specs.declared.output.Output.{Output}
 use Rattle.replay.specs.declared.records.Words.{Words}
 use Rattle.replay.specs.Text.{line}
@@ -36,6 +38,11 @@ replyLine reply = line (reply .refusal) (reply .number ∷ [])
 -- the line of a refusal number and the two amounts of an intensity
 abbrev pub intensityLine : Intensity → List ℕ
 intensityLine reply = line (reply .refusal) (reply .operation ∷ reply .provision ∷ [])
+
+-- the line of a refusal number and a statement
+abbrev pub statementLine : Statement → List ℕ
+statementLine reply =
+    line (reply .refusal) (reply .elements ∷ reply .waiting ∷ reply .operation ∷ reply .provision ∷ reply .total ∷ [])
 
 abbrev pub freshCall : Loan → Loan
 freshCall loan = leaving (refusalLine (freshRefusal (loan .book))) (freshBook (loan .book)) loan
@@ -73,12 +80,17 @@ abbrev pub closeCall : Words → Loan → Loan
 closeCall words loan =
     leaving (refusalLine (closeRefusal (loan .book) (words .first))) (closeBook (loan .book) (words .first)) loan
 
--- an intensity leaves the words as they are
+-- a statement leaves the words as they are
+abbrev pub statementCall : Words → Loan → Loan
+statementCall words loan =
+    leaving (statementLine (statementReply (loan .book) (words .first))) (loan .book) loan
+
+-- so does an intensity
 abbrev pub intensityCall : Words → Loan → Loan
 intensityCall words loan =
     leaving (intensityLine (intensityReply (loan .book) (words .first) (words .second))) (loan .book) loan
 
--- the call of an operation from 1 to 7, or of 9
+-- the call of an operation from 1 to 9
 unfoldable pub answered : Words → Loan → Loan
 answered words loan =
     cond (eqb (words .operation) 1) (freshCall loan)
@@ -88,4 +100,5 @@ answered words loan =
     (cond (eqb (words .operation) 5) (enrolCall words loan)
     (cond (eqb (words .operation) 6) (quoteCall words loan)
     (cond (eqb (words .operation) 7) (closeCall words loan)
-    (intensityCall words loan)))))))
+    (cond (eqb (words .operation) 8) (statementCall words loan)
+    (intensityCall words loan))))))))

@@ -1,6 +1,6 @@
 -- What the records of the input do, one after the other. Assumes nothing.
 use Prim.Native.Nat.{ℕ, zero, suc, _+_, _/_}
-use mathlib.Core.Bool.{Bool, true, false, cond, _&&_, _||_}
+use mathlib.Core.Bool.{Bool, true, false, cond, _&&_}
 use mathlib.Core.List.{List, [], _∷_, _++_}
 use lib.Dec.{eqb, ltb, leb}
 use lib.ListN.{length, take, drop, set, replicate}
@@ -78,7 +78,7 @@ loan run = record { book = take (run .lent) (run .array); waiting = run .waiting
 abbrev pub returned : Loan → Run → Run
 returned after run = withArray (after .book ++ drop (run .lent) (run .array)) (withWaiting (after .waiting) run)
 
--- operations 1 to 7 and 9: a call of the book on the lent words
+-- operations 1 to 9: a call of the book on the lent words
 unfoldable pub called : Words → Run → Run
 called words run = returned (answered words (loan run)) run
 
@@ -113,7 +113,7 @@ dumped start count run =
 -- what the words of a record do, by their operation
 unfoldable pub performed : Words → Run → Run
 performed words run =
-    cond ((leb 1 (words .operation) && leb (words .operation) 7) || eqb (words .operation) 9) (called words run)
+    cond (leb 1 (words .operation) && leb (words .operation) 9) (called words run)
     (cond (eqb (words .operation) 10) (dividedRun (words .first) (words .second) run)
     (cond (eqb (words .operation) 11) (listed (words .first) run)
     (cond (eqb (words .operation) 12) (poked (words .first) (words .second) run)

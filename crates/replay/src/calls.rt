@@ -1,9 +1,9 @@
-// Operations 1 to 7 and 9: the calls of the book, on the lent words of its array.
+// Operations 1 to 9: the calls of the book, on the lent words of its array.
 ghost use mathlib.Core.Path.{_≡_};
 ghost use mathlib.Core.List.{List};
 ghost use Prim.Native.Nat.{ℕ};
 ghost use Rattle.replay.specs.Waiting.{waitingIn, put};
-ghost use Rattle.replay.specs.Answers.{loanOf, refusalLine, replyLine, answered, freshCall, openCall, postCall, strikeCall, enrolCall, quoteCall, closeCall, intensityCall};
+ghost use Rattle.replay.specs.Answers.{loanOf, refusalLine, replyLine, answered, freshCall, openCall, postCall, strikeCall, enrolCall, quoteCall, closeCall, statementCall, intensityCall};
 ghost use Rattle.replay.specs.Replay.{runOf, called};
 use crate::output;
 use crate::output::Buffer;
@@ -39,6 +39,7 @@ fn answer(words: Words, book: &mut [u64], buffer: &mut Buffer, output: Output) -
         5 => enrol(words, book, buffer, output),
         6 => quote(words, book, buffer, output),
         7 => close(words, book, buffer, output),
+        8 => statement(words, book, buffer, output),
         _ => intensity(words, book, buffer, output),
     }
 }
@@ -119,6 +120,25 @@ fn close(words: Words, book: &mut [u64], buffer: &mut Buffer, output: Output) ->
 {
     let refusal = book::close(book, words.first);
     put_refusal(refusal, buffer, output)
+}
+
+fn statement(words: Words, book: &mut [u64], buffer: &mut Buffer, output: Output) -> Output
+    ensures { λ r. ⌜ loanOf (now (book .exit)) (now (buffer .exit)) r
+        ≡ statementCall words (loanOf (now (book .entry)) (now (buffer .entry)) output) ⌝ }
+{
+    let reply = book::statement(book, words.first);
+    output::put_line(
+        reply.refusal,
+        &[
+            reply.elements,
+            reply.waiting,
+            reply.operation,
+            reply.provision,
+            reply.total,
+        ],
+        buffer,
+        output,
+    )
 }
 
 fn intensity(words: Words, book: &mut [u64], buffer: &mut Buffer, output: Output) -> Output

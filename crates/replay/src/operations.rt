@@ -41,7 +41,7 @@ fn perform(
         ≡ performed words (runOf (now (weights .entry)) (now (array .entry)) (now (buffer .entry)) state) ⌝ }
 {
     let operation = words.operation;
-    if ((1 <= operation) & (operation <= 7)) | (operation == 9) {
+    if (1 <= operation) & (operation <= 9) {
         return calls::call(words, array, buffer, state);
     }
     match operation {

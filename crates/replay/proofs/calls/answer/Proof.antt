@@ -26,6 +26,9 @@ quote-requires c κs = search needs
 close-requires : tie.Need-close-requires
 close-requires c κs = search needs
 
+statement-requires : tie.Need-statement-requires
+statement-requires c κs = search needs
+
 intensity-requires : tie.Need-intensity-requires
 intensity-requires c κs = search needs
 
@@ -99,15 +102,25 @@ returns-8 : tie.Need-returns-8
 unfolding answered
 returns-8 c =
     let made = c .before .before in
+    rw (made .before .before .before .match .keys8) (made .statement .ensures)
+
+same-length-9 : tie.Need-same-length-9
+same-length-9 c = search needs
+
+returns-9 : tie.Need-returns-9
+unfolding answered
+returns-9 c =
+    let made = c .before .before in
     let other = made .before .before .before .match .rest in
     rw (
-      ne-eqb _ 1 (other .0 .0 .0 .0 .0 .0 .1),
-      ne-eqb _ 2 (other .0 .0 .0 .0 .0 .1),
-      ne-eqb _ 3 (other .0 .0 .0 .0 .1),
-      ne-eqb _ 4 (other .0 .0 .0 .1),
-      ne-eqb _ 5 (other .0 .0 .1),
-      ne-eqb _ 6 (other .0 .1),
-      ne-eqb _ 7 (other .1),
+      ne-eqb _ 1 (other .0 .0 .0 .0 .0 .0 .0 .1),
+      ne-eqb _ 2 (other .0 .0 .0 .0 .0 .0 .1),
+      ne-eqb _ 3 (other .0 .0 .0 .0 .0 .1),
+      ne-eqb _ 4 (other .0 .0 .0 .0 .1),
+      ne-eqb _ 5 (other .0 .0 .0 .1),
+      ne-eqb _ 6 (other .0 .0 .1),
+      ne-eqb _ 7 (other .0 .1),
+      ne-eqb _ 8 (other .1),
     )
     (made .intensity .ensures)
 
@@ -122,6 +135,7 @@ answer-spec =
     enrol-requires
     quote-requires
     close-requires
+    statement-requires
     intensity-requires
     same-length
     returns
@@ -138,4 +152,6 @@ answer-spec =
     same-length-7
     returns-7
     same-length-8
-    returns-8)
+    returns-8
+    same-length-9
+    returns-9)

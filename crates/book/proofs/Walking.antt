@@ -1,0 +1,127 @@
+-- What the walk of a statement holds after the first n elements: the counts and sums over the chain's elements among them.
+-- Assumes nothing.
+use mathlib.Core.Bool.{cond, _&&_, Bool, true, false, not}
+use mathlib.Core.List.{List}
+use mathlib.Core.Logic.{⊎-elim}
+use mathlib.Core.Path.{_≡_, refl, _∙_, ap, sym}
+use Prim.Native.Nat.{ℕ, _≤_, _<_, _+_}
+use native.Mathlib.Nat.{add-zero, eq-zero-or-pos}
+use native.Mathlib.Omega.{arith}
+use lib.Dec.{eqb, leb}
+use borrow.Author.Tests.{eq-eqb, ne-eqb, le-leb}
+use Rattle.apportion.specs.Dividing.{largest}
+use Rattle.apportion.specs.Places.{oneIf}
+use Rattle.book_words.specs.Book.{elements, elementAt, categories, categoryOf}
+use Rattle.book_words.specs.Parts.{numberedCategory}
+use Rattle.book_words.specs.Soundness.{sound}
+use Rattle.book_words.specs.Totals.{Side, shareOf, operation, provision}
+use Rattle.book.specs.declared.replies.Statement.{Statement}
+use Rattle.book.specs.Statements.{elementsOn, waitingOn, sharesOn, waits, ofChain, statementBy}
+use Rattle.book_words.specs.declared.records.Category.{Category}
+use Rattle.book_words.specs.declared.records.Element.{Element}
+use Rattle.apportion.proofs.Sums.{sum-next, sum-le, sum-more, count-most}
+use Rattle.book_words.proofs.Booleans.{and-both, cond-most}
+use Rattle.book_words.proofs.Handed.{shares-limited}
+use Rattle.book_words.proofs.Numbered.{category-there}
+
+-- an element in an open category, by the tests of the code
+pub waits-told : (ws : List ℕ) (e : Element) (r : Category) → r ≡ numberedCategory ws (e .category) → e .category ≤ categories ws
+    → (t : Bool) → not (eqb (e .category) 0) && eqb (r .closed) 0 ≡ t → oneIf t ≡ oneIf (waits ws e)
+waits-told ws e r is inside t h =
+    ⊎-elim
+    (λ (none : e .category ≡ 0). rw (← h, eq-eqb (e .category) 0 none))
+    (λ (some : 0 < e .category).
+    let there = category-there ws (e .category) r is (and-both (leb 1 (e .category)) (leb (e .category) (categories ws)) (le-leb 1 (e .category) some) (le-leb (e .category) (categories ws) inside)) in
+    rw (← h, ap (λ (x : Category). x .closed) there) (ap (λ (b : Bool). oneIf (not (eqb (e .category) 0) && b)) (sym (not-not (eqb (categoryOf ws (e .category) .closed) 0)))))
+    (eq-zero-or-pos (e .category))
+  where
+    not-not : (b : Bool) → not (not b) ≡ b
+    not-not true = refl
+    not-not false = refl
+
+pub record Walked (ws : List ℕ) (chain n counted waiting byOperation byProvision : ℕ) : Type 0 where
+  pub inside : n ≤ elements ws
+  pub all-counted : counted ≡ elementsOn ws n chain
+  pub all-waiting : waiting ≡ waitingOn ws n chain
+  pub all-operation : byOperation ≡ sharesOn ws n chain operation
+  pub all-provision : byProvision ≡ sharesOn ws n chain provision
+
+module _ (ws : List ℕ) (chain : ℕ) where
+  pub walked-start : Walked ws chain 0 0 0 0 0
+  unfolding elementsOn waitingOn sharesOn
+  walked-start = record { inside = omega arith; all-counted = refl; all-waiting = refl; all-operation = refl; all-provision = refl }
+
+  -- one element more of the chain
+  shares-own : (n : ℕ) (side : Side) → elementAt ws n .chain ≡ chain → sharesOn ws (n + 1) chain side ≡ sharesOn ws n chain side + shareOf side (elementAt ws n)
+  unfolding sharesOn
+  shares-own n side own =
+      sum-next n (λ p. cond (ofChain chain (elementAt ws p)) (shareOf side (elementAt ws p)) 0) ∙ rw (eq-eqb (elementAt ws n .chain) chain own)
+
+  pub walked-own : {n counted waiting byOperation byProvision : ℕ} → Walked ws chain n counted waiting byOperation byProvision → n < elements ws
+      → (e : Element) → e ≡ elementAt ws n → e .chain ≡ chain → (one : ℕ) → one ≡ oneIf (waits ws e)
+      → Walked ws chain (n + 1) (counted + 1) (waiting + one) (byOperation + e .operation) (byProvision + e .provision)
+  unfolding elementsOn waitingOn
+  walked-own {n} w h e is own one waited =
+      let mine = ap (λ (r : Element). r .chain) (sym is) ∙ own in
+      rw (waited, is)
+      (record {
+        inside = omega arith;
+        all-counted = rw (w .all-counted, sum-next n (λ p. oneIf (ofChain chain (elementAt ws p))), eq-eqb (elementAt ws n .chain) chain mine);
+        all-waiting = rw (w .all-waiting, sum-next n (λ p. oneIf (ofChain chain (elementAt ws p) && waits ws (elementAt ws p))), eq-eqb (elementAt ws n .chain) chain mine);
+        all-operation = rw (w .all-operation, shares-own n operation mine);
+        all-provision = rw (w .all-provision, shares-own n provision mine);
+      })
+
+  -- one of another chain
+  shares-other : (n : ℕ) (side : Side) → (elementAt ws n .chain ≡ chain → ⊥) → sharesOn ws (n + 1) chain side ≡ sharesOn ws n chain side
+  unfolding sharesOn
+  shares-other n side other =
+      sum-next n (λ p. cond (ofChain chain (elementAt ws p)) (shareOf side (elementAt ws p)) 0) ∙ rw (ne-eqb (elementAt ws n .chain) chain other, add-zero)
+
+  pub walked-other : {n counted waiting byOperation byProvision : ℕ} → Walked ws chain n counted waiting byOperation byProvision → n < elements ws
+      → (e : Element) → e ≡ elementAt ws n → (e .chain ≡ chain → ⊥) → Walked ws chain (n + 1) counted waiting byOperation byProvision
+  unfolding elementsOn waitingOn
+  walked-other {n} w h e is ne =
+      let other : elementAt ws n .chain ≡ chain → ⊥ = λ z. ne (ap (λ (r : Element). r .chain) is ∙ z) in
+      record {
+        inside = omega arith;
+        all-counted = w .all-counted ∙ rw (sum-next n (λ p. oneIf (ofChain chain (elementAt ws p))), ne-eqb (elementAt ws n .chain) chain other, add-zero);
+        all-waiting = w .all-waiting ∙ rw (sum-next n (λ p. oneIf (ofChain chain (elementAt ws p) && waits ws (elementAt ws p))), ne-eqb (elementAt ws n .chain) chain other, add-zero);
+        all-operation = w .all-operation ∙ rw (shares-other n operation other);
+        all-provision = w .all-provision ∙ rw (shares-other n provision other);
+      }
+
+  -- the shares of a chain among the first elements are within 10^18
+  shares-most : sound ws ≡ true → (n : ℕ) → n ≤ elements ws → (side : Side) → sharesOn ws n chain side ≤ largest
+  unfolding sharesOn
+  shares-most fine n h side =
+      omega (
+        arith,
+        sum-le n (λ p. cond (ofChain chain (elementAt ws p)) (shareOf side (elementAt ws p)) 0) (λ p. shareOf side (elementAt ws p))
+            (λ p i. cond-most (ofChain chain (elementAt ws p)) (shareOf side (elementAt ws p))),
+        sum-more n (elements ws) (λ p. shareOf side (elementAt ws p)) h,
+        shares-limited ws fine side,
+      )
+
+  -- so are the sums that the walk holds
+  pub walked-most : {n counted waiting byOperation byProvision : ℕ} → sound ws ≡ true → Walked ws chain n counted waiting byOperation byProvision
+      → (byOperation ≤ largest) × (byProvision ≤ largest)
+  walked-most {n} fine w = (
+    omega (arith, w .all-operation, shares-most fine n (w .inside) operation),
+    omega (arith, w .all-provision, shares-most fine n (w .inside) provision),
+  )
+
+  -- the counts are at most the number of elements passed
+  pub walked-fits : {n counted waiting byOperation byProvision : ℕ} → Walked ws chain n counted waiting byOperation byProvision → (counted ≤ n) × (waiting ≤ n)
+  unfolding elementsOn waitingOn
+  walked-fits {n} w = (
+    omega (arith, w .all-counted, count-most n (λ p. ofChain chain (elementAt ws p))),
+    omega (arith, w .all-waiting, count-most n (λ p. ofChain chain (elementAt ws p) && waits ws (elementAt ws p))),
+  )
+
+  pub walked-done : {n counted waiting byOperation byProvision : ℕ} → Walked ws chain n counted waiting byOperation byProvision → elements ws ≤ n
+      → _≡_ {A = Statement} (record { refusal = 0; elements = counted; waiting = waiting; operation = byOperation; provision = byProvision; total = byOperation + byProvision }) (statementBy ws (elements ws) chain)
+  unfolding statementBy
+  walked-done {n} w h =
+      let end : n ≡ elements ws = omega (arith, w .inside) in
+      rw (w .all-counted, w .all-waiting, w .all-operation, w .all-provision, end)

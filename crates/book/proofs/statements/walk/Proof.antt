@@ -1,0 +1,125 @@
+-- `book::statements::walk` meets its contract: after the first elements the counts and sums are those over the chain's elements
+-- among them, and all of them are within 10^18. Assumes nothing.
+use mathlib.Core.Path.{_≡_, _∙_, ap, refl}
+use Prim.Native.Nat.{ℕ, _-_, _+_}
+use native.Mathlib.Omega.{arith}
+use borrow.Author.Needs.{needs}
+use Rattle.apportion.specs.Places.{oneIf}
+use Rattle.book_words.specs.Book.{elementAt}
+use Rattle.book_words.specs.declared.records.Element.{Element}
+use Rattle.book.specs.Statements.{waits}
+use Rattle.book_words.proofs.Facts.{sound-counted}
+use Rattle.book_words.proofs.Handed.{category-inside}
+use Rattle.book_words.proofs.Numbered.{next-element}
+use Rattle.book.proofs.Walking.{Walked, walked-start, walked-own, walked-other, walked-most, walked-fits, walked-done}
+use Rattle.book.proofs.statements.walk.Statement.{statement}
+use Rattle.book.proofs.statements.walk.Tie as tie
+
+abbrev Inv-loop : tie.InvT-loop
+Inv-loop book chain count elements₀ waiting₀ operation₀ provision₀ passed₀ elements waiting operation provision passed =
+    Walked book chain passed elements waiting operation provision
+
+abbrev μ-loop : tie.MeasureT-loop
+μ-loop book chain count elements₀ waiting₀ operation₀ provision₀ passed₀ elements waiting operation provision passed =
+    count - passed
+
+shared-slice-read-count : tie.Need-shared-slice-read-count Inv-loop μ-loop
+shared-slice-read-count c = omega (arith, sound-counted (c .before .before .args .book .now) (c .before .before .pre))
+
+loop-holds : tie.Need-loop-holds Inv-loop μ-loop
+loop-holds c = walked-start (c .before .before .args .book .now) (c .before .before .args .chain)
+
+add-passed : tie.Need-add-passed Inv-loop μ-loop
+add-passed c =
+    let s = c .before .before .before .before in
+    omega (arith, sound-counted (s .args .book .now) (s .pre))
+
+element-of-requires : tie.Need-element-of-requires Inv-loop μ-loop
+element-of-requires c κs = search needs
+
+-- the element that was read is the next
+read : (c : tie.After-element-of Inv-loop μ-loop) → c .element-of .result ≡ elementAt (c .before .before .before .before .before .args .book .now) (c .before .before .loop .passed)
+read c = c .element-of .ensures ∙ next-element (c .before .before .before .before .before .args .book .now) (c .before .before .loop .passed) (c .before .loop-test .taken)
+
+loop-less : tie.Need-loop-less Inv-loop μ-loop
+loop-less c = omega arith
+
+loop-again : tie.Need-loop-again Inv-loop μ-loop
+loop-again c =
+    let a = c .before .before .before .before in
+    let s = a .before .before .before in
+    walked-other (s .args .book .now) (s .args .chain) (a .loop .inv) (c .before .before .before .loop-test .taken) _ (read (c .before .before)) (c .if1 .taken)
+
+-- what the walk holds after an element of the chain
+turned : (c : tie.Else1 Inv-loop μ-loop) (one : ℕ) → one ≡ oneIf (waits (c .before .before .before .before .before .before .before .args .book .now) (c .before .before .element-of .result))
+    → Walked (c .before .before .before .before .before .before .before .args .book .now) (c .before .before .before .before .before .before .before .args .chain) (c .before .before .before .before .loop .passed + 1)
+    (c .before .before .before .before .loop .elements + 1) (c .before .before .before .before .loop .waiting + one)
+    (c .before .before .before .before .loop .operation + c .before .before .element-of .result .operation) (c .before .before .before .before .loop .provision + c .before .before .element-of .result .provision)
+turned c one waited =
+    let a = c .before .before .before .before in
+    let s = a .before .before .before in
+    walked-own (s .args .book .now) (s .args .chain) (a .loop .inv) (c .before .before .before .loop-test .taken) _ (read (c .before .before)) (c .if1 .left) one waited
+
+add-elements : tie.Need-add-elements Inv-loop μ-loop
+add-elements c =
+    let s = c .before .before .before .before .before .before .before in
+    omega (arith, walked-fits (s .args .book .now) (s .args .chain) (turned c _ refl), sound-counted (s .args .book .now) (s .pre))
+
+waits-requires : tie.Need-waits-requires Inv-loop μ-loop
+waits-requires c κs =
+    let a = c .before .before .before .before in
+    let s = a .before .before .before in
+    (s .pre, omega (arith, ap (λ (r : Element). r .category) (read (c .before .before)), category-inside (s .args .book .now) (s .pre) (a .loop .passed) (c .before .before .before .loop-test .taken)))
+
+add-waiting : tie.Need-add-waiting Inv-loop μ-loop
+add-waiting c =
+    let s = c .before .before .before .before .before .before .before .before in
+    omega (arith, walked-fits (s .args .book .now) (s .args .chain) (turned (c .before) _ (c .waits .ensures)), sound-counted (s .args .book .now) (s .pre))
+
+add-operation : tie.Need-add-operation Inv-loop μ-loop
+add-operation c =
+    let s = c .before .before .before .before .before .before .before .before .before in
+    omega (arith, walked-most (s .args .book .now) (s .args .chain) (s .pre) (turned (c .before .before) _ refl))
+
+add-provision : tie.Need-add-provision Inv-loop μ-loop
+add-provision c =
+    let s = c .before .before .before .before .before .before .before .before .before .before in
+    omega (arith, walked-most (s .args .book .now) (s .args .chain) (s .pre) (turned (c .before .before .before) _ refl))
+
+loop-less-2 : tie.Need-loop-less-2 Inv-loop μ-loop
+loop-less-2 c = omega arith
+
+loop-again-2 : tie.Need-loop-again-2 Inv-loop μ-loop
+loop-again-2 c = turned (c .before .before .before) _ (c .before .before .waits .ensures)
+
+add-t11 : tie.Need-add-t11 Inv-loop μ-loop
+add-t11 c =
+    let s = c .before .before .before .before in
+    omega (arith, walked-most (s .args .book .now) (s .args .chain) (s .pre) (c .before .loop .inv))
+
+returns : tie.Need-returns Inv-loop μ-loop
+returns c =
+    let s = c .before .before .before .before in
+    walked-done (s .args .book .now) (s .args .chain) (c .before .loop .inv) (c .loop-test .left)
+
+pub walk-spec : {M : Type 1} → statement M
+walk-spec =
+    tie.close
+    (tie.spec
+    Inv-loop
+    μ-loop
+    shared-slice-read-count
+    loop-holds
+    add-passed
+    element-of-requires
+    loop-less
+    loop-again
+    add-elements
+    waits-requires
+    add-waiting
+    add-operation
+    add-provision
+    loop-less-2
+    loop-again-2
+    add-t11
+    returns)

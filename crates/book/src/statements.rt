@@ -1,0 +1,77 @@
+// Statement: what the elements of a chain got.
+ghost use mathlib.Core.Bool.{true};
+ghost use mathlib.Core.Path.{_≡_};
+ghost use Prim.Native.Nat.{_≤_};
+ghost use Rattle.apportion.specs.Places.{oneIf};
+ghost use Rattle.book_words.specs.Book.{categories, elements};
+ghost use Rattle.book_words.specs.Soundness.{sound};
+ghost use Rattle.book.specs.Statements.{statementReply, statementBy, waits as waitsIn};
+use crate::replies;
+use crate::replies::Statement;
+use book_words::Element;
+
+// The statement of a chain.
+pub fn statement(book: &[u64], chain: u64) -> Statement
+    ensures { λ r. ⌜ r ≡ statementReply (now (book .entry)) chain ⌝ }
+{
+    if !book_words::is_sound(book) {
+        return replies::no_statement(1);
+    }
+    statement_sound(book, chain)
+}
+
+// The same of a book that is known to be sound.
+pub fn statement_sound(book: &[u64], chain: u64) -> Statement
+    requires { ⌜ sound (now book) ≡ true ⌝ }
+    ensures { λ r. ⌜ r ≡ statementReply (now (book .entry)) chain ⌝ }
+{
+    if !book_words::is_chain(chain) {
+        return replies::no_statement(3);
+    }
+    walk(book, chain)
+}
+
+// Counts and adds over the elements of a chain, in one walk.
+fn walk(book: &[u64], chain: u64) -> Statement
+    requires { ⌜ sound (now book) ≡ true ⌝ }
+    ensures { λ r. ⌜ r ≡ statementBy (now (book .entry)) (elements (now (book .entry))) chain ⌝ }
+{
+    let count = book[book_words::ELEMENTS];
+    let mut elements = 0;
+    let mut waiting = 0;
+    let mut operation = 0;
+    let mut provision = 0;
+    let mut passed = 0;
+    while passed < count {
+        passed += 1;
+        let e = book_words::element_of(book, passed);
+        if e.chain != chain {
+            continue;
+        }
+        elements += 1;
+        waiting += waits(book, e);
+        operation += e.operation;
+        provision += e.provision;
+    }
+    Statement {
+        refusal: 0,
+        elements,
+        waiting,
+        operation,
+        provision,
+        total: operation + provision,
+    }
+}
+
+// 1 for an element in an open category, else 0.
+fn waits(book: &[u64], e: Element) -> u64
+    requires { ⌜ sound (now book) ≡ true ⌝ }
+    requires { ⌜ e .category ≤ categories (now book) ⌝ }
+    ensures { λ r. ⌜ r ≡ oneIf (waitsIn (now (book .entry)) e) ⌝ }
+{
+    let r = book_words::category_of(book, e.category);
+    if (e.category != 0) & (r.closed == 0) {
+        return 1;
+    }
+    0
+}

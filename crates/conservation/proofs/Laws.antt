@@ -1,0 +1,196 @@
+-- Demand 3, for every list of calls. Assumes nothing.
+use mathlib.Core.Bool.{Bool, true, false, cond, _&&_}
+use mathlib.Core.List.{List, [], _∷_}
+use mathlib.Core.Logic.{⊎-elim}
+use mathlib.Core.Option.{some}
+use mathlib.Core.Path.{_≡_, refl, sym, ap, _∙_}
+use Prim.Native.Nat.{ℕ, _+_, _-_, _≤_, _<_}
+use native.Mathlib.Nat.{eq-zero-or-pos}
+use native.Mathlib.Omega.{arith}
+use lib.Dec.{eqb, leb}
+use borrow.Author.Tests.{le-leb}
+use Rattle.apportion.specs.Places.{oneIf, sumBelow}
+use Rattle.book_words.specs.Book.{elements, elementAt, isClosed}
+use Rattle.book_words.specs.Measures.{isChain}
+use Rattle.book_words.specs.Soundness.{sound}
+use Rattle.book_words.specs.Totals.{Side, operation, provision, shareOf, sharesOf}
+use Rattle.book_shares.specs.Shares.{exactIn}
+use Rattle.book.specs.Calls.{openRefusal, postRefusal, strikeRefusal, enrolRefusal, quoteRefusal}
+use Rattle.book.specs.Statements.{statementReply, statementBy, elementsOn, waitingOn, sharesOn, ofChain, waits}
+use Rattle.book_shares.specs.Closing.{closeRefusal}
+use Rattle.apportion.proofs.Sums.{sum-cong}
+use Rattle.book_words.proofs.Booleans.{and-both}
+use Rattle.book_words.proofs.Handed.{category-inside, open-shares, shares-all, shares-by-chain}
+use Rattle.book.proofs.Laws.{fresh-accepted, fresh-sound, open-sound, open-refused, post-sound, post-refused, strike-sound, strike-refused, enrol-sound, enrol-refused, quote-sound, quote-refused, close-sound, close-refused, statement-accepted}
+use Rattle.conservation.specs.declared.Call.{Call}
+use Rattle.conservation.specs.declared.Call.the-variants.{Open, Post, Strike, Enrol, Quote, Close}
+use Rattle.conservation.specs.Conserved.{gets, chainOf, waitsIn, chainGets, statementIn, quotedOn, statedOn, emissions, exactOf, chains, Conserved, Conservation}
+use Rattle.conservation.specs.Runs.{Run, step, next, after, runOf}
+use Rattle.conservation.specs.Tally.{Enrolment, Quotation, enrolled, quoted, numbered, closedIn, feed}
+use Rattle.conservation.proofs.Near.{Near, near-fresh, near-open, near-post, near-strike, near-enrol, near-quote, near-close}
+use Rattle.conservation.proofs.Reading.{enrolmentOf, quotationOf, readElement, tallyOf, closed-read, fresh-read, step-read}
+use Rattle.conservation.proofs.Agreement.{read-enrolled, read-quoted, chain-read, elements-sum, element-told, exact-read, waits-read, closed-sum, quoted-sum}
+
+-- a sound book whose closed categories' shares are near, with the tally that it is read as
+module _ (ws : List ℕ) (fine : sound ws ≡ true) where
+  known : (chain : ℕ) → 1 ≤ chain → chain ≤ chains → isChain chain ≡ true
+  known chain low high = and-both (leb 1 chain) (leb chain 10_000) (le-leb 1 chain low) (le-leb chain 10_000 high)
+
+  -- the counts and sums of a statement are the tally's
+  counted : (chain : ℕ) → elementsOn ws (elements ws) chain ≡ statementIn (tallyOf ws) ws chain .elements
+  unfolding elementsOn
+  counted chain =
+      sym
+      (elements-sum ws (λ k e. oneIf (eqb (chainOf e) chain))
+      ∙ sum-cong (elements ws)
+      (λ p. oneIf (eqb (chainOf (readElement (elementAt ws p))) chain))
+      (λ p. oneIf (ofChain chain (elementAt ws p)))
+      (λ p h. ap (λ (n : ℕ). oneIf (eqb n chain)) (chain-read (elementAt ws p))))
+
+  waiting : (chain : ℕ) → waitingOn ws (elements ws) chain ≡ statementIn (tallyOf ws) ws chain .waiting
+  unfolding waitingOn
+  waiting chain =
+      sym
+      (elements-sum ws (λ k e. oneIf (eqb (chainOf e) chain && waitsIn (tallyOf ws) e))
+      ∙ sum-cong (elements ws)
+      (λ p. oneIf (eqb (chainOf (readElement (elementAt ws p))) chain && waitsIn (tallyOf ws) (readElement (elementAt ws p))))
+      (λ p. oneIf (ofChain chain (elementAt ws p) && waits ws (elementAt ws p)))
+      (λ p h. rw (chain-read (elementAt ws p), waits-read ws fine p h)))
+
+  gotten : (chain : ℕ) (side : Side) → sharesOn ws (elements ws) chain side ≡ chainGets (tallyOf ws) ws chain side
+  unfolding sharesOn
+  gotten chain side =
+      sym
+      (elements-sum ws (λ k e. cond (eqb (chainOf e) chain) (gets ws k side) 0)
+      ∙ sum-cong (elements ws)
+      (λ p. cond (eqb (chainOf (readElement (elementAt ws p))) chain) (gets ws (p + 1) side) 0)
+      (λ p. cond (ofChain chain (elementAt ws p)) (shareOf side (elementAt ws p)) 0)
+      (λ p h.
+      let back : p + 1 - 1 ≡ p = omega arith in
+      rw (chain-read (elementAt ws p), back)))
+
+  stated : (chain : ℕ) → 1 ≤ chain → chain ≤ chains → statementReply ws chain ≡ statementIn (tallyOf ws) ws chain
+  unfolding statementBy
+  stated chain low high =
+      statement-accepted ws chain fine (known chain low high)
+      ∙ rw (counted chain, waiting chain, gotten chain operation, gotten chain provision)
+
+  -- what the statement of a chain says of a side
+  said : (side : Side) (p : ℕ) → p < chains → statedOn side (statementReply ws (p + 1)) ≡ sharesOn ws (elements ws) (p + 1) side
+  unfolding statementBy
+  said side p h = ap (statedOn side) (statement-accepted ws (p + 1) fine (known (p + 1) (omega arith) (omega arith))) ∙ of-side side
+    where
+      of-side : (s : Side) → statedOn s (statementBy ws (elements ws) (p + 1)) ≡ sharesOn ws (elements ws) (p + 1) s
+      of-side operation = refl
+      of-side provision = refl
+
+  handed : (side : Side) → sumBelow chains (λ p. statedOn side (statementReply ws (p + 1))) ≡ emissions (tallyOf ws) side
+  unfolding sharesOn emissions sharesOf
+  handed side =
+      sum-cong chains (λ p. statedOn side (statementReply ws (p + 1))) (λ p. sharesOn ws (elements ws) (p + 1) side) (said side)
+      ∙ shares-by-chain ws fine side
+      ∙ shares-all ws fine side
+      ∙ sym (rw (closed-sum ws fine side, quoted-sum ws side))
+
+  -- the element of the book that an enrolment of the tally is
+  module _ (k : ℕ) (e : Enrolment) (is : numbered (tallyOf ws .elements) k ≡ some (enrolled e)) where
+    inside : k - 1 < elements ws
+    inside = let there = element-told ws k (enrolled e) is in omega arith
+
+    record-read : (elementAt ws (k - 1) .category ≡ 0 → ⊥) × (enrolmentOf (elementAt ws (k - 1)) ≡ e)
+    record-read = read-enrolled (elementAt ws (k - 1)) e (element-told ws k (enrolled e) is .2)
+
+    category-closed : (b : Bool) → closedIn (tallyOf ws) (e .category) ≡ b → isClosed ws (elementAt ws (k - 1) .category) ≡ b
+    category-closed b is′ =
+        let there = record-read .0 in
+        sym (closed-read ws (elementAt ws (k - 1) .category) (above there) (category-inside ws fine (k - 1) inside))
+        ∙ ap (λ (x : Enrolment). closedIn (tallyOf ws) (x .category)) (record-read .1)
+        ∙ is′
+      where
+        above : {n : ℕ} → (n ≡ 0 → ⊥) → 1 ≤ n
+        above {n} ne = ⊎-elim (λ (z : n ≡ 0). absurd (ne z)) (λ (h : 0 < n). h) (eq-zero-or-pos n)
+
+  conserving : Near ws → Conserved (tallyOf ws) ws
+  conserving near =
+      record {
+        each-statement = stated;
+        all-handed-out = handed;
+        closed-near = λ k e is closed side.
+            let r = elementAt ws (k - 1) in
+            let there = record-read k e is in
+            let exact : exactOf (tallyOf ws) side e ≡ exactIn ws (r .category) side r = ap (exactOf (tallyOf ws) side) (sym (there .1)) ∙ exact-read ws r side (there .0) in
+            rw exact (near (k - 1) (inside k e is) (there .0) (category-closed k e is true closed) side);
+        quoted-exact = λ k q is side. of-side side k q (read-quoted (elementAt ws (k - 1)) q (element-told ws k (quoted q) is .2) .1);
+        open-none = λ k e is unclosed side. open-shares ws fine (k - 1) (inside k e is) (record-read k e is .0) (category-closed k e is false unclosed) side;
+      }
+    where
+      of-side : (side : Side) (k : ℕ) (q : Quotation) → quotationOf (elementAt ws (k - 1)) ≡ q → gets ws k side ≡ quotedOn side q
+      of-side operation k q e = ap (λ (x : Quotation). x .operation) e
+      of-side provision k q e = ap (λ (x : Quotation). x .provision) e
+
+-- a call, accepted or refused, leaves a sound book sound and its shares near
+sound-step : (ws : List ℕ) (call : Call) → sound ws ≡ true → sound (step ws call .book) ≡ true
+sound-step ws (Open kind) fine = open-sound ws kind fine
+sound-step ws (Post category group quantity operationFactor provisionFactor) fine = post-sound ws category group quantity operationFactor provisionFactor fine
+sound-step ws (Strike entry) fine = strike-sound ws entry fine
+sound-step ws (Enrol category chain code amount distance) fine = enrol-sound ws category chain code amount distance fine
+sound-step ws (Quote chain adjust mass distance operationIntensity provisionIntensity) fine = quote-sound ws chain adjust mass distance operationIntensity provisionIntensity fine
+sound-step ws (Close category) fine = close-sound ws category fine
+
+-- what holds of a book after an accepted call, and before, holds after any
+either : (P : List ℕ → Type 0) (refusal : ℕ) (old new : List ℕ) → ((refusal ≡ 0 → ⊥) → new ≡ old) → (refusal ≡ 0 → P new) → P old → P new
+either P refusal old new same made before =
+    ⊎-elim
+    (λ (e : refusal ≡ 0). made e)
+    (λ (h : 0 < refusal). rw (same (λ z. omega arith)) before)
+    (eq-zero-or-pos refusal)
+
+near-step : (ws : List ℕ) (call : Call) → Near ws → Near (step ws call .book)
+near-step ws (Open kind) near =
+    either Near (openRefusal ws kind) ws _ (open-refused ws kind) (λ e. near-open ws kind e near) near
+near-step ws (Post category group quantity operationFactor provisionFactor) near =
+    either Near (postRefusal ws category group quantity operationFactor provisionFactor) ws _
+    (post-refused ws category group quantity operationFactor provisionFactor)
+    (λ e. near-post ws category group quantity operationFactor provisionFactor e near)
+    near
+near-step ws (Strike entry) near =
+    either Near (strikeRefusal ws entry) ws _ (strike-refused ws entry) (λ e. near-strike ws entry e near) near
+near-step ws (Enrol category chain code amount distance) near =
+    either Near (enrolRefusal ws category chain code amount distance) ws _
+    (enrol-refused ws category chain code amount distance)
+    (λ e. near-enrol ws category chain code amount distance e near)
+    near
+near-step ws (Quote chain adjust mass distance operationIntensity provisionIntensity) near =
+    either Near (quoteRefusal ws chain adjust mass distance operationIntensity provisionIntensity) ws _
+    (quote-refused ws chain adjust mass distance operationIntensity provisionIntensity)
+    (λ e. near-quote ws chain adjust mass distance operationIntensity provisionIntensity e near)
+    near
+near-step ws (Close category) near =
+    either Near (closeRefusal ws category) ws _ (close-refused ws category) (λ e. near-close ws category e near) near
+
+-- what holds of a run after every call: the book is sound, its shares are near, and the tally is what the book is read as
+record Kept (run : Run) : Type 0 where
+  book-sound : sound (run .book) ≡ true
+  book-near : Near (run .book)
+  tally-read : run .tally ≡ tallyOf (run .book)
+
+kept-next : (run : Run) (call : Call) → Kept run → Kept (next run call)
+kept-next run call kept =
+    record {
+      book-sound = sound-step (run .book) call (kept .book-sound);
+      book-near = near-step (run .book) call (kept .book-near);
+      tally-read = ap (λ t. feed t call (step (run .book) call .reply .refusal)) (kept .tally-read) ∙ step-read (run .book) call;
+    }
+
+kept-after : (run : Run) (calls : List Call) → Kept run → Kept (after run calls)
+kept-after run [] kept = kept
+kept-after run (call ∷ calls) kept = kept-after (next run call) calls (kept-next run call kept)
+
+-- Demand 3, of every list of calls from a fresh book.
+pub conserved : Conservation
+conserved ws long calls =
+    let run = runOf ws calls in
+    let kept : Kept run =
+    kept-after (runOf ws []) calls
+    (record { book-sound = fresh-sound ws long; book-near = near-fresh ws long; tally-read = sym (fresh-read ws long) }) in
+    (fresh-accepted ws long, rw (kept .tally-read) (conserving (run .book) (kept .book-sound) (kept .book-near)))

@@ -1,0 +1,144 @@
+-- Demand 3: "Demand 3 takes the elements of a chain or category, and what is accepted, struck or closed, from the tally after
+-- the list." Assumes nothing.
+use mathlib.Core.Bool.{Bool, true, false, cond, not, _&&_}
+use mathlib.Core.List.{List, [], _∷_}
+use mathlib.Core.Option.{some}
+use mathlib.Core.Path.{_≡_}
+use Prim.Native.Nat.{ℕ, _+_, _*_, _-_, _≤_}
+use lib.Dec.{eqb}
+use lib.ListN.{length}
+use Rattle.apportion.specs.Nearness.{Within}
+use Rattle.apportion.specs.Places.{sumBelow, oneIf}
+use Rattle.book_words.specs.Book.{bookLength, elementAt}
+use Rattle.book_words.specs.Totals.{Side, operation, provision, shareOf}
+use Rattle.book_shares.specs.declared.weights.Takers.{Takers}
+use Rattle.book_shares.specs.declared.weights.Takers.the-variants.{Freight, Passengers, Group}
+use Rattle.book_shares.specs.Shares.{Fraction, exactShare}
+use Rattle.book_shares.specs.Sums.{takes}
+use Rattle.book.specs.declared.replies.Statement.{Statement}
+use Rattle.book.specs.Calls.{freshRefusal}
+use Rattle.book.specs.Statements.{statementReply}
+use Rattle.conservation.specs.declared.Call.{Call}
+use Rattle.conservation.specs.Runs.{runOf}
+use Rattle.conservation.specs.Tally.{TallyEntry, Enrolment, Quotation, TallyElement, enrolled, quoted, Tally, numbered, closedIn}
+
+-- the sum over records that are numbered from this number on
+abbrev pub sumFrom : {A : Type 0} → ℕ → List A → (ℕ → A → ℕ) → ℕ
+sumFrom number [] f = 0
+sumFrom number (x ∷ xs) f = f number x + sumFrom (number + 1) xs f
+
+-- the sum over the records of a list of the tally, "from 1 in order"
+abbrev pub sumNumbered : {A : Type 0} → List A → (ℕ → A → ℕ) → ℕ
+sumNumbered xs f = sumFrom 1 xs f
+
+-- "What element k gets is the two share words of the book's element record k"
+abbrev pub gets : List ℕ → ℕ → Side → ℕ
+gets ws k side = shareOf side (elementAt ws (k - 1))
+
+-- the element's chain
+abbrev pub chainOf : TallyElement → ℕ
+chainOf (enrolled e) = e .chain
+chainOf (quoted q) = q .chain
+
+-- the element is in an open category; a quote is in none
+abbrev pub waitsIn : Tally → TallyElement → Bool
+waitsIn t (enrolled e) = not (closedIn t (e .category))
+waitsIn t (quoted q) = false
+
+-- what the elements of a chain get
+abbrev pub chainGets : Tally → List ℕ → ℕ → Side → ℕ
+chainGets t ws chain side = sumNumbered (t .elements) (λ k e. cond (eqb (chainOf e) chain) (gets ws k side) 0)
+
+-- the statement that "adds its own chain's shares alone"
+abbrev pub statementIn : Tally → List ℕ → ℕ → Statement
+statementIn t ws chain =
+    record {
+      refusal = 0;
+      elements = sumNumbered (t .elements) (λ k e. oneIf (eqb (chainOf e) chain));
+      waiting = sumNumbered (t .elements) (λ k e. oneIf (eqb (chainOf e) chain && waitsIn t e));
+      operation = chainGets t ws chain operation;
+      provision = chainGets t ws chain provision;
+      total = chainGets t ws chain operation + chainGets t ws chain provision;
+    }
+
+-- an amount of this side: an entry's, where it is not struck, a quote's and a statement's
+abbrev pub unstruckIn : Side → TallyEntry → ℕ
+unstruckIn operation e = cond (e .struck) 0 (e .operation)
+unstruckIn provision e = cond (e .struck) 0 (e .provision)
+
+abbrev pub quotedOn : Side → Quotation → ℕ
+quotedOn operation q = q .operation
+quotedOn provision q = q .provision
+
+abbrev pub statedOn : Side → Statement → ℕ
+statedOn operation s = s .operation
+statedOn provision s = s .provision
+
+-- the amounts of "closed categories and quotes"
+abbrev pub closedAmount : Tally → Side → TallyEntry → ℕ
+closedAmount t side e = cond (closedIn t (e .category)) (unstruckIn side e) 0
+
+abbrev pub quotedAmountOf : Side → TallyElement → ℕ
+quotedAmountOf side (enrolled e) = 0
+quotedAmountOf side (quoted q) = quotedOn side q
+
+unfoldable pub emissions : Tally → Side → ℕ
+emissions t side =
+    sumNumbered (t .entries) (λ k e. closedAmount t side e) + sumNumbered (t .elements) (λ k e. quotedAmountOf side e)
+
+-- "The A, B, F, P, C and S of its exact shares are sums over the tally too.": A and B are the pools of groups 0, 1 and 2
+unfoldable pub poolIn : Tally → ℕ → ℕ → Side → ℕ
+poolIn t category group side =
+    sumNumbered (t .entries) (λ k e. cond (eqb (e .category) category) (cond (eqb (e .group) group) (unstruckIn side e) 0) 0)
+
+-- what an enrolment in the category measures whose code is one of these; 0 for any other element
+abbrev pub amongIn : ℕ → Takers → (Enrolment → ℕ) → TallyElement → ℕ
+amongIn category takers measure (enrolled e) =
+    cond (eqb (e .category) category && takes takers (e .code)) (measure e) 0
+amongIn category takers measure (quoted q) = 0
+
+-- F, C and S
+unfoldable pub activityIn : Tally → ℕ → Takers → ℕ
+activityIn t category takers = sumNumbered (t .elements) (λ k e. amongIn category takers (λ x. x .activity) e)
+
+-- P
+unfoldable pub massIn : Tally → ℕ → ℕ
+massIn t category = sumNumbered (t .elements) (λ k e. amongIn category Passengers (λ x. x .amount * 100 * x .distance) e)
+
+-- the exact share of an enrolment, by these sums
+unfoldable pub exactOf : Tally → Side → Enrolment → Fraction
+exactOf t side e =
+    exactShare
+    (poolIn t (e .category) 0 side)
+    (activityIn t (e .category) Freight)
+    (massIn t (e .category))
+    (activityIn t (e .category) Passengers)
+    (λ g. poolIn t (e .category) g side)
+    (λ g. activityIn t (e .category) (Group g))
+    (e .code)
+    (e .activity)
+
+-- the chains, "1 to 10,000"
+abbrev pub chains : ℕ
+chains = 10_000
+
+-- demand 3, sentence by sentence
+pub record Conserved (t : Tally) (ws : List ℕ) : Type 0 where
+  -- "each statement adds its own chain's shares alone"; each is accepted
+  pub each-statement : (chain : ℕ) → 1 ≤ chain → chain ≤ chains → statementReply ws chain ≡ statementIn t ws chain
+  -- "all emissions of closed categories and quotes are handed out, none twice"
+  pub all-handed-out : (side : Side) → sumBelow chains (λ p. statedOn side (statementReply ws (p + 1))) ≡ emissions t side
+  -- "every share of a closed category is less than 3 micrograms from its exact fraction"
+  pub closed-near : (k : ℕ) (e : Enrolment) → numbered (t .elements) k ≡ some (enrolled e) → closedIn t (e .category) ≡ true
+      → (side : Side) → Within 3 (gets ws k side) (exactOf t side e .numerator) (exactOf t side e .denominator)
+  -- "quoted elements hold exactly their amounts,"
+  pub quoted-exact : (k : ℕ) (q : Quotation) → numbered (t .elements) k ≡ some (quoted q) → (side : Side) → gets ws k side ≡ quotedOn side q
+  -- "open categories none."
+  pub open-none : (k : ℕ) (e : Enrolment) → numbered (t .elements) k ≡ some (enrolled e) → closedIn t (e .category) ≡ false
+      → (side : Side) → gets ws k side ≡ 0
+
+-- "One theorem over whole lists": an accepted fresh on any words that have room for a book, then any calls
+abbrev pub Conservation : Type 0
+Conservation =
+    (ws : List ℕ) → bookLength ≤ length ws → (calls : List Call)
+    → (freshRefusal ws ≡ 0) × Conserved (runOf ws calls .tally) (runOf ws calls .book)

@@ -1,0 +1,4 @@
+pub mod Runs
+pub mod Tally
+pub mod Conserved
+pub mod Starred

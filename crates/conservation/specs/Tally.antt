@@ -1,0 +1,169 @@
+-- "The tally is kept beside the book and takes nothing from it. It is fed each call with its arguments and refusal number."
+-- Assumes nothing.
+use mathlib.Core.Bool.{Bool, true, false}
+use mathlib.Core.List.{List, [], _∷_, _++_}
+use mathlib.Core.Option.{Option, none, some}
+use Prim.Native.Nat.{ℕ, zero, suc, _*_}
+use Rattle.apportion.specs.Grounds.{accepted}
+use Rattle.book_words.specs.Measures.{activityOf}
+use Rattle.book.specs.Calls.{quotedAmount}
+use Rattle.conservation.specs.declared.Call.{Call}
+use Rattle.conservation.specs.declared.Call.the-variants.{Open, Post, Strike, Enrol, Quote, Close}
+
+pub record TallyCategory : Type 0 where
+  pub kind : ℕ
+  pub closed : Bool
+
+pub record TallyEntry : Type 0 where
+  pub category : ℕ
+  pub group : ℕ
+  pub operation : ℕ
+  pub provision : ℕ
+  pub struck : Bool
+
+-- an enrolment's "arguments and activity"
+pub record Enrolment : Type 0 where
+  pub category : ℕ
+  pub chain : ℕ
+  pub code : ℕ
+  pub amount : ℕ
+  pub distance : ℕ
+  pub activity : ℕ
+
+-- a quote's "chain and its two amounts, operation and provision"
+pub record Quotation : Type 0 where
+  pub chain : ℕ
+  pub operation : ℕ
+  pub provision : ℕ
+
+pub data TallyElement : Type 0 where
+  enrolled : Enrolment → TallyElement
+  quoted : Quotation → TallyElement
+
+pub record Tally : Type 0 where
+  pub categories : List TallyCategory
+  pub entries : List TallyEntry
+  pub elements : List TallyElement
+
+-- "It starts without categories, entries or elements,"
+abbrev pub emptyTally : Tally
+emptyTally = record { categories = []; entries = []; elements = [] }
+
+-- "and numbers each of the three from 1 in order.": the record of this number, where there is one
+abbrev pub numbered : {A : Type 0} → List A → ℕ → Option A
+numbered [] number = none
+numbered (x ∷ xs) zero = none
+numbered (x ∷ xs) (suc zero) = some x
+numbered (x ∷ xs) (suc (suc n)) = numbered xs (suc n)
+
+-- the records with the one of this number changed
+abbrev pub changed : {A : Type 0} → (A → A) → List A → ℕ → List A
+changed f [] number = []
+changed f (x ∷ xs) zero = x ∷ xs
+changed f (x ∷ xs) (suc zero) = f x ∷ xs
+changed f (x ∷ xs) (suc (suc n)) = x ∷ changed f xs (suc n)
+
+-- the kind of the category of this number; 0 where there is none
+abbrev pub kindOf : Option TallyCategory → ℕ
+kindOf none = 0
+kindOf (some c) = c .kind
+
+-- the category of this number is there and closed
+abbrev pub closedOf : Option TallyCategory → Bool
+closedOf none = false
+closedOf (some c) = c .closed
+
+unfoldable pub closedIn : Tally → ℕ → Bool
+closedIn t category = closedOf (numbered (t .categories) category)
+
+-- "An accepted open adds a category of that kind, not closed."
+abbrev pub tallyOpen : Tally → ℕ → Tally
+tallyOpen t kind =
+    record {
+      categories = t .categories ++ (record { kind = kind; closed = false } ∷ []);
+      entries = t .entries;
+      elements = t .elements;
+    }
+
+-- "An accepted post adds an entry: category, group, quantity × operation factor, quantity × provision factor, not struck."
+abbrev pub tallyPost : Tally → ℕ → ℕ → ℕ → ℕ → ℕ → Tally
+tallyPost t category group quantity operationFactor provisionFactor =
+    record {
+      categories = t .categories;
+      entries = t .entries
+          ++ (record {
+            category = category;
+            group = group;
+            operation = quantity * operationFactor;
+            provision = quantity * provisionFactor;
+            struck = false;
+          }
+          ∷ []);
+      elements = t .elements;
+    }
+
+-- "An accepted strike marks the entry it names as struck."
+abbrev pub markStruck : TallyEntry → TallyEntry
+markStruck e =
+    record {
+      category = e .category;
+      group = e .group;
+      operation = e .operation;
+      provision = e .provision;
+      struck = true;
+    }
+
+abbrev pub tallyStrike : Tally → ℕ → Tally
+tallyStrike t entry =
+    record { categories = t .categories; entries = changed markStruck (t .entries) entry; elements = t .elements }
+
+abbrev pub withElement : Tally → TallyElement → Tally
+withElement t e = record { categories = t .categories; entries = t .entries; elements = t .elements ++ (e ∷ []) }
+
+-- "An accepted enrolment adds an element with its arguments and activity."
+abbrev pub tallyEnrol : Tally → ℕ → ℕ → ℕ → ℕ → ℕ → Tally
+tallyEnrol t category chain code amount distance =
+    withElement t
+    (enrolled
+    (record {
+      category = category;
+      chain = chain;
+      code = code;
+      amount = amount;
+      distance = distance;
+      activity = activityOf (kindOf (numbered (t .categories) category)) code amount distance;
+    }))
+
+-- "An accepted quote adds an element with its chain and its two amounts, operation and provision, by the formula and rounding
+-- under quote."
+abbrev pub tallyQuote : Tally → ℕ → ℕ → ℕ → ℕ → ℕ → ℕ → Tally
+tallyQuote t chain adjust mass distance operationIntensity provisionIntensity =
+    withElement t
+    (quoted
+    (record {
+      chain = chain;
+      operation = quotedAmount adjust mass distance operationIntensity;
+      provision = quotedAmount adjust mass distance provisionIntensity;
+    }))
+
+-- "An accepted closing marks the category it names as closed."
+abbrev pub markClosed : TallyCategory → TallyCategory
+markClosed c = record { kind = c .kind; closed = true }
+
+abbrev pub tallyClose : Tally → ℕ → Tally
+tallyClose t category =
+    record { categories = changed markClosed (t .categories) category; entries = t .entries; elements = t .elements }
+
+abbrev pub tallied : Tally → Call → Tally
+tallied t (Open kind) = tallyOpen t kind
+tallied t (Post category group quantity operationFactor provisionFactor) =
+    tallyPost t category group quantity operationFactor provisionFactor
+tallied t (Strike entry) = tallyStrike t entry
+tallied t (Enrol category chain code amount distance) = tallyEnrol t category chain code amount distance
+tallied t (Quote chain adjust mass distance operationIntensity provisionIntensity) =
+    tallyQuote t chain adjust mass distance operationIntensity provisionIntensity
+tallied t (Close category) = tallyClose t category
+
+-- "A refused call changes nothing in it."
+abbrev pub feed : Tally → Call → ℕ → Tally
+feed t call refusal = accepted refusal (tallied t call) t
