@@ -133,6 +133,18 @@ def ties(cases):
     cases.dump_all()
 
 
+def far_from_exact(cases):
+    """A share that is more than 2 from the exact one."""
+    cases.new_book()
+    # F, P and S are 3200. Of A 3 freight gets 2 by a tie; of these and of B1
+    # 2 the first element has 1.0625 and gets the unit left over by a tie. Its
+    # exact share is 3 × 1700 / 6400 + 2 × 1700 / 3200, or 1.86.
+    closed(cases, 3, [(0, 3, 3), (1, 2, 2)],
+           [(1, 1700, 1)] + [(1, 100, 1)] * 15 + [(100, 32, 1)],
+           (4,) + (0,) * 15 + (1,), (4,) + (0,) * 15 + (1,))
+    cases.dump_all()
+
+
 def nothing_to_hand_out(cases):
     """The pools are 0; the closed word is written all the same."""
     cases.new_book()
@@ -570,6 +582,7 @@ def add(cases):
     mixed(cases)
     hubs(cases)
     ties(cases)
+    far_from_exact(cases)
     nothing_to_hand_out(cases)
     struck_entries(cases)
     small_weights(cases)

@@ -2,7 +2,7 @@
 -- above 0 wherever it is made." Assumes nothing.
 use Prim.Native.Nat.{ℕ, _+_, _*_, _<_}
 
--- the number x is less than `units` from the fraction n / d, both ways
+-- the number x is less than `units` from the fraction n / d, both ways; it never holds where d is 0
 pub record Within (units x n d : ℕ) : Type 0 where
   pub above : x * d < n + units * d
   pub below : n < x * d + units * d

@@ -2,7 +2,7 @@
 -- what an accepted one changes, and that it keeps all else (`Fresh`; `CategoryAdded`, `EntryAdded`, `EntryStruck`, `ElementAdded` of
 -- `Views`; `CategoryClosed` of `Closed`); that a refused one leaves the list as it was; that either leaves a sound book sound.
 -- Assumes nothing.
-use mathlib.Core.Bool.{true, false, cond}
+use mathlib.Core.Bool.{true, false, cond, _&&_}
 use mathlib.Core.List.{List}
 use mathlib.Core.Logic.{⊎-elim}
 use mathlib.Core.Path.{_≡_, _∙_, ap, refl, sym}
@@ -14,16 +14,17 @@ use lib.ListN.{length, length-set, List·getD-append, drop}
 use lib.Seq.{getD-set-same, getD-set-other}
 use borrow.Author.Tests.{le-ltb, lt-ltb, ne-eqb}
 use Rattle.apportion.specs.Dividing.{largest}
-use Rattle.apportion.specs.Places.{at, listBelow}
-use Rattle.book_words.specs.Book.{mark, bookLength, categories, entries, elements, categoryOf, entryAt}
+use Rattle.apportion.specs.Places.{at, listBelow, oneIf}
+use Rattle.book_words.specs.Book.{mark, bookLength, categories, entries, elements, categoryOf, entryAt, elementAt}
 use Rattle.book_words.specs.Measures.{isKind, isChain}
 use Rattle.book_words.specs.Soundness.{sound, categoryFine, entryFine, elementFine}
 use Rattle.book_words.specs.Totals.{allUnstruck, sharesOf, activities, operation, provision, Side, emitted, unstruck, shareOf}
 use Rattle.book_words.specs.declared.records.Element.{Element}
 use Rattle.book_words.specs.declared.records.Entry.{Entry}
 use Rattle.book.specs.Calls.{cleared, freshRefusal, freshBook, openRefusal, openBook, postRefusal, postBook, postedEntry, strikeRefusal, strikeBook, enrolRefusal, enrolBook, enrolledElement, quoteRefusal, quoteBook, quotedElement}
-use Rattle.book.specs.Statements.{refusedStatement, statementBy, statementRefusal, statementReply}
+use Rattle.book.specs.Statements.{ofChain, waits, elementsOn, waitingOn, sharesOn, refusedStatement, statementOf, statementRefusal, statementReply}
 use Rattle.apportion.proofs.Grounds.{refused-old}
+use Rattle.apportion.proofs.Sums.{sum-zero}
 use Rattle.apportion.proofs.Lists.{filled, filled-length, list-length, list-at}
 use Rattle.book_words.proofs.Booleans.{and-both, cond-same}
 use Rattle.book_words.proofs.Facts.{sound-counted}
@@ -272,6 +273,21 @@ module _ (ws : List ℕ) where
     unfolding statementReply statementRefusal
     statement-unknown fine unknown = rw (fine, unknown)
 
-    pub statement-accepted : sound ws ≡ true → isChain chain ≡ true → statementReply ws chain ≡ statementBy ws (elements ws) chain
+    pub statement-accepted : sound ws ≡ true → isChain chain ≡ true → statementReply ws chain ≡ statementOf ws chain
     unfolding statementReply statementRefusal
     statement-accepted fine known = rw (fine, known)
+
+    -- "zeros for an unused chain"
+    pub statement-unused : sound ws ≡ true → isChain chain ≡ true → ((p : ℕ) → p < elements ws → elementAt ws p .chain ≡ chain → ⊥) → statementReply ws chain ≡ refusedStatement 0
+    unfolding statementOf elementsOn waitingOn sharesOn
+    statement-unused fine known unused =
+        let none : (p : ℕ) → p < elements ws → ofChain chain (elementAt ws p) ≡ false = λ p h. ne-eqb (elementAt ws p .chain) chain (unused p h) in
+        let nothing : (side : Side) → sharesOn ws chain side ≡ 0 =
+        λ side. sum-zero (elements ws) (λ p. cond (ofChain chain (elementAt ws p)) (shareOf side (elementAt ws p)) 0) (λ p h. rw (none p h)) in
+        statement-accepted fine known
+        ∙ rw (
+          sum-zero (elements ws) (λ p. oneIf (ofChain chain (elementAt ws p))) (λ p h. rw (none p h)),
+          sum-zero (elements ws) (λ p. oneIf (ofChain chain (elementAt ws p) && waits ws (elementAt ws p))) (λ p h. rw (none p h)),
+          nothing operation,
+          nothing provision,
+        )

@@ -10,13 +10,13 @@ use native.Mathlib.Omega.{arith}
 use lib.Dec.{eqb, leb}
 use borrow.Author.Tests.{eq-eqb, ne-eqb, le-leb}
 use Rattle.apportion.specs.Dividing.{largest}
-use Rattle.apportion.specs.Places.{oneIf}
+use Rattle.apportion.specs.Places.{oneIf, countBelow, sumBelow}
 use Rattle.book_words.specs.Book.{elements, elementAt, categories, categoryOf}
 use Rattle.book_words.specs.Parts.{numberedCategory}
 use Rattle.book_words.specs.Soundness.{sound}
 use Rattle.book_words.specs.Totals.{Side, shareOf, operation, provision}
 use Rattle.book.specs.declared.replies.Statement.{Statement}
-use Rattle.book.specs.Statements.{elementsOn, waitingOn, sharesOn, waits, ofChain, statementBy}
+use Rattle.book.specs.Statements.{elementsOn, waitingOn, sharesOn, waits, ofChain, statementOf}
 use Rattle.book_words.specs.declared.records.Category.{Category}
 use Rattle.book_words.specs.declared.records.Element.{Element}
 use Rattle.apportion.proofs.Sums.{sum-next, sum-le, sum-more, count-most}
@@ -39,28 +39,29 @@ waits-told ws e r is inside t h =
     not-not true = refl
     not-not false = refl
 
+-- the share of the element at a place, where it is of the chain
+abbrev ownShare : List ℕ → ℕ → Side → ℕ → ℕ
+ownShare ws chain side p = cond (ofChain chain (elementAt ws p)) (shareOf side (elementAt ws p)) 0
+
 pub record Walked (ws : List ℕ) (chain n counted waiting byOperation byProvision : ℕ) : Type 0 where
   pub inside : n ≤ elements ws
-  pub all-counted : counted ≡ elementsOn ws n chain
-  pub all-waiting : waiting ≡ waitingOn ws n chain
-  pub all-operation : byOperation ≡ sharesOn ws n chain operation
-  pub all-provision : byProvision ≡ sharesOn ws n chain provision
+  pub all-counted : counted ≡ countBelow n (λ p. ofChain chain (elementAt ws p))
+  pub all-waiting : waiting ≡ countBelow n (λ p. ofChain chain (elementAt ws p) && waits ws (elementAt ws p))
+  pub all-operation : byOperation ≡ sumBelow n (ownShare ws chain operation)
+  pub all-provision : byProvision ≡ sumBelow n (ownShare ws chain provision)
 
 module _ (ws : List ℕ) (chain : ℕ) where
   pub walked-start : Walked ws chain 0 0 0 0 0
-  unfolding elementsOn waitingOn sharesOn
   walked-start = record { inside = omega arith; all-counted = refl; all-waiting = refl; all-operation = refl; all-provision = refl }
 
   -- one element more of the chain
-  shares-own : (n : ℕ) (side : Side) → elementAt ws n .chain ≡ chain → sharesOn ws (n + 1) chain side ≡ sharesOn ws n chain side + shareOf side (elementAt ws n)
-  unfolding sharesOn
+  shares-own : (n : ℕ) (side : Side) → elementAt ws n .chain ≡ chain → sumBelow (n + 1) (ownShare ws chain side) ≡ sumBelow n (ownShare ws chain side) + shareOf side (elementAt ws n)
   shares-own n side own =
-      sum-next n (λ p. cond (ofChain chain (elementAt ws p)) (shareOf side (elementAt ws p)) 0) ∙ rw (eq-eqb (elementAt ws n .chain) chain own)
+      sum-next n (ownShare ws chain side) ∙ rw (eq-eqb (elementAt ws n .chain) chain own)
 
   pub walked-own : {n counted waiting byOperation byProvision : ℕ} → Walked ws chain n counted waiting byOperation byProvision → n < elements ws
       → (e : Element) → e ≡ elementAt ws n → e .chain ≡ chain → (one : ℕ) → one ≡ oneIf (waits ws e)
       → Walked ws chain (n + 1) (counted + 1) (waiting + one) (byOperation + e .operation) (byProvision + e .provision)
-  unfolding elementsOn waitingOn
   walked-own {n} w h e is own one waited =
       let mine = ap (λ (r : Element). r .chain) (sym is) ∙ own in
       rw (waited, is)
@@ -73,14 +74,12 @@ module _ (ws : List ℕ) (chain : ℕ) where
       })
 
   -- one of another chain
-  shares-other : (n : ℕ) (side : Side) → (elementAt ws n .chain ≡ chain → ⊥) → sharesOn ws (n + 1) chain side ≡ sharesOn ws n chain side
-  unfolding sharesOn
+  shares-other : (n : ℕ) (side : Side) → (elementAt ws n .chain ≡ chain → ⊥) → sumBelow (n + 1) (ownShare ws chain side) ≡ sumBelow n (ownShare ws chain side)
   shares-other n side other =
-      sum-next n (λ p. cond (ofChain chain (elementAt ws p)) (shareOf side (elementAt ws p)) 0) ∙ rw (ne-eqb (elementAt ws n .chain) chain other, add-zero)
+      sum-next n (ownShare ws chain side) ∙ rw (ne-eqb (elementAt ws n .chain) chain other, add-zero)
 
   pub walked-other : {n counted waiting byOperation byProvision : ℕ} → Walked ws chain n counted waiting byOperation byProvision → n < elements ws
       → (e : Element) → e ≡ elementAt ws n → (e .chain ≡ chain → ⊥) → Walked ws chain (n + 1) counted waiting byOperation byProvision
-  unfolding elementsOn waitingOn
   walked-other {n} w h e is ne =
       let other : elementAt ws n .chain ≡ chain → ⊥ = λ z. ne (ap (λ (r : Element). r .chain) is ∙ z) in
       record {
@@ -92,12 +91,11 @@ module _ (ws : List ℕ) (chain : ℕ) where
       }
 
   -- the shares of a chain among the first elements are within 10^18
-  shares-most : sound ws ≡ true → (n : ℕ) → n ≤ elements ws → (side : Side) → sharesOn ws n chain side ≤ largest
-  unfolding sharesOn
+  shares-most : sound ws ≡ true → (n : ℕ) → n ≤ elements ws → (side : Side) → sumBelow n (ownShare ws chain side) ≤ largest
   shares-most fine n h side =
       omega (
         arith,
-        sum-le n (λ p. cond (ofChain chain (elementAt ws p)) (shareOf side (elementAt ws p)) 0) (λ p. shareOf side (elementAt ws p))
+        sum-le n (ownShare ws chain side) (λ p. shareOf side (elementAt ws p))
             (λ p i. cond-most (ofChain chain (elementAt ws p)) (shareOf side (elementAt ws p))),
         sum-more n (elements ws) (λ p. shareOf side (elementAt ws p)) h,
         shares-limited ws fine side,
@@ -113,15 +111,14 @@ module _ (ws : List ℕ) (chain : ℕ) where
 
   -- the counts are at most the number of elements passed
   pub walked-fits : {n counted waiting byOperation byProvision : ℕ} → Walked ws chain n counted waiting byOperation byProvision → (counted ≤ n) × (waiting ≤ n)
-  unfolding elementsOn waitingOn
   walked-fits {n} w = (
     omega (arith, w .all-counted, count-most n (λ p. ofChain chain (elementAt ws p))),
     omega (arith, w .all-waiting, count-most n (λ p. ofChain chain (elementAt ws p) && waits ws (elementAt ws p))),
   )
 
   pub walked-done : {n counted waiting byOperation byProvision : ℕ} → Walked ws chain n counted waiting byOperation byProvision → elements ws ≤ n
-      → _≡_ {A = Statement} (record { refusal = 0; elements = counted; waiting = waiting; operation = byOperation; provision = byProvision; total = byOperation + byProvision }) (statementBy ws (elements ws) chain)
-  unfolding statementBy
+      → _≡_ {A = Statement} (record { refusal = 0; elements = counted; waiting = waiting; operation = byOperation; provision = byProvision; total = byOperation + byProvision }) (statementOf ws chain)
+  unfolding statementOf elementsOn waitingOn sharesOn
   walked-done {n} w h =
       let end : n ≡ elements ws = omega (arith, w .inside) in
       rw (w .all-counted, w .all-waiting, w .all-operation, w .all-provision, end)

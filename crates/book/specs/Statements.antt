@@ -21,17 +21,16 @@ ofChain chain e = eqb (e .chain) chain
 abbrev pub waits : List ℕ → Element → Bool
 waits ws e = not (eqb (e .category) 0) && not (isClosed ws (e .category))
 
--- over those of the first n elements of the book that are of this chain: how many they are, how many of them wait, and
--- what their shares add up to
-unfoldable pub elementsOn : List ℕ → ℕ → ℕ → ℕ
-elementsOn ws n chain = countBelow n (λ p. ofChain chain (elementAt ws p))
+-- "counted and added over the elements of that chain alone": elements, waiting, and the shares of a side
+unfoldable pub elementsOn : List ℕ → ℕ → ℕ
+elementsOn ws chain = countBelow (elements ws) (λ p. ofChain chain (elementAt ws p))
 
-unfoldable pub waitingOn : List ℕ → ℕ → ℕ → ℕ
-waitingOn ws n chain = countBelow n (λ p. ofChain chain (elementAt ws p) && waits ws (elementAt ws p))
+unfoldable pub waitingOn : List ℕ → ℕ → ℕ
+waitingOn ws chain = countBelow (elements ws) (λ p. ofChain chain (elementAt ws p) && waits ws (elementAt ws p))
 
-unfoldable pub sharesOn : List ℕ → ℕ → ℕ → Side → ℕ
-sharesOn ws n chain side =
-    sumBelow n (λ p. cond (ofChain chain (elementAt ws p)) (shareOf side (elementAt ws p)) 0)
+unfoldable pub sharesOn : List ℕ → ℕ → Side → ℕ
+sharesOn ws chain side =
+    sumBelow (elements ws) (λ p. cond (ofChain chain (elementAt ws p)) (shareOf side (elementAt ws p)) 0)
 
 abbrev pub statementGrounds : List ℕ → ℕ → List Ground
 statementGrounds ws chain =
@@ -42,16 +41,16 @@ statementGrounds ws chain =
 unfoldable pub statementRefusal : List ℕ → ℕ → ℕ
 statementRefusal ws chain = firstOf (statementGrounds ws chain)
 
--- the statement by the first n elements of the book
-unfoldable pub statementBy : List ℕ → ℕ → ℕ → Statement
-statementBy ws n chain =
+-- what an accepted statement answers
+unfoldable pub statementOf : List ℕ → ℕ → Statement
+statementOf ws chain =
     record {
       refusal = 0;
-      elements = elementsOn ws n chain;
-      waiting = waitingOn ws n chain;
-      operation = sharesOn ws n chain operation;
-      provision = sharesOn ws n chain provision;
-      total = sharesOn ws n chain operation + sharesOn ws n chain provision;
+      elements = elementsOn ws chain;
+      waiting = waitingOn ws chain;
+      operation = sharesOn ws chain operation;
+      provision = sharesOn ws chain provision;
+      total = sharesOn ws chain operation + sharesOn ws chain provision;
     }
 
 -- "A refusal returns its number with zeros"
@@ -61,7 +60,4 @@ refusedStatement refusal =
 
 unfoldable pub statementReply : List ℕ → ℕ → Statement
 statementReply ws chain =
-    accepted
-    (statementRefusal ws chain)
-    (statementBy ws (elements ws) chain)
-    (refusedStatement (statementRefusal ws chain))
+    accepted (statementRefusal ws chain) (statementOf ws chain) (refusedStatement (statementRefusal ws chain))

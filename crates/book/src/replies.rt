@@ -24,13 +24,13 @@ pub struct Statement {
     // How many elements the chain has, and how many of them are in open categories.
     pub elements: u64,
     pub waiting: u64,
-    // Their shares, in micrograms.
+    // Their shares, in micrograms; the total is operation plus provision.
     pub operation: u64,
     pub provision: u64,
     pub total: u64,
 }
 
-// The same of a statement.
+// A refused statement: its number with zeros.
 pub fn no_statement(refusal: u64) -> Statement
     ensures { λ r. ⌜ r ≡ refusedStatement refusal ⌝ }
 {

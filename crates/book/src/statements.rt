@@ -3,9 +3,9 @@ ghost use mathlib.Core.Bool.{true};
 ghost use mathlib.Core.Path.{_≡_};
 ghost use Prim.Native.Nat.{_≤_};
 ghost use Rattle.apportion.specs.Places.{oneIf};
-ghost use Rattle.book_words.specs.Book.{categories, elements};
+ghost use Rattle.book_words.specs.Book.{categories};
 ghost use Rattle.book_words.specs.Soundness.{sound};
-ghost use Rattle.book.specs.Statements.{statementReply, statementBy, waits as waitsIn};
+ghost use Rattle.book.specs.Statements.{statementReply, statementOf, waits};
 use crate::replies;
 use crate::replies::Statement;
 use book_words::Element;
@@ -34,7 +34,7 @@ pub fn statement_sound(book: &[u64], chain: u64) -> Statement
 // Counts and adds over the elements of a chain, in one walk.
 fn walk(book: &[u64], chain: u64) -> Statement
     requires { ⌜ sound (now book) ≡ true ⌝ }
-    ensures { λ r. ⌜ r ≡ statementBy (now (book .entry)) (elements (now (book .entry))) chain ⌝ }
+    ensures { λ r. ⌜ r ≡ statementOf (now (book .entry)) chain ⌝ }
 {
     let count = book[book_words::ELEMENTS];
     let mut elements = 0;
@@ -49,7 +49,7 @@ fn walk(book: &[u64], chain: u64) -> Statement
             continue;
         }
         elements += 1;
-        waiting += waits(book, e);
+        waiting += waiting_of(book, e);
         operation += e.operation;
         provision += e.provision;
     }
@@ -64,10 +64,10 @@ fn walk(book: &[u64], chain: u64) -> Statement
 }
 
 // 1 for an element in an open category, else 0.
-fn waits(book: &[u64], e: Element) -> u64
+fn waiting_of(book: &[u64], e: Element) -> u64
     requires { ⌜ sound (now book) ≡ true ⌝ }
     requires { ⌜ e .category ≤ categories (now book) ⌝ }
-    ensures { λ r. ⌜ r ≡ oneIf (waitsIn (now (book .entry)) e) ⌝ }
+    ensures { λ r. ⌜ r ≡ oneIf (waits (now (book .entry)) e) ⌝ }
 {
     let r = book_words::category_of(book, e.category);
     if (e.category != 0) & (r.closed == 0) {

@@ -15,7 +15,7 @@ use Rattle.book_words.specs.Soundness.{sound}
 use Rattle.book_words.specs.Totals.{Side, unstruckOf, sharesOf, shareOf, operation, provision}
 use Rattle.book_words.specs.declared.records.Element.{Element}
 use Rattle.book_shares.specs.Closing.{closeRefusal, closeBook}
-use Rattle.book_shares.specs.Shares.{closingShare, exactIn}
+use Rattle.book_shares.specs.Shares.{closingShare, exactOf}
 use Rattle.apportion.proofs.Grounds.{refused-old}
 use Rattle.apportion.proofs.Sums.{sum-cong}
 use Rattle.book_words.proofs.Facts.{sound-counted}
@@ -72,7 +72,7 @@ module _ (ws : List ℕ) (category : ℕ) where
 
     -- Every share of the closed category is less than 3 micrograms from its exact share, both ways.
     pub share-near-exact : (p : ℕ) → p < elements ws → elementAt ws p .category ≡ category
-        → Within 3 (shareOf side (elementAt (closeBook ws category) p)) (exactIn ws category side (elementAt ws p) .numerator) (exactIn ws category side (elementAt ws p) .denominator)
+        → Within 3 (shareOf side (elementAt (closeBook ws category) p)) (exactOf ws category side (elementAt ws p) .numerator) (exactOf ws category side (elementAt ws p) .denominator)
     share-near-exact p h is =
         let m = at-place ws (closable ws category e .fine) p h in
         rw (written side)

@@ -18,7 +18,7 @@ use Rattle.book_words.specs.Totals.{Side}
 use Rattle.book_shares.specs.declared.weights.Takers.{Takers}
 use Rattle.book_shares.specs.declared.weights.Takers.the-variants.{Group, Freight, Passengers}
 use Rattle.book_shares.specs.Dealing.{ToDivideBy}
-use Rattle.book_shares.specs.Shares.{dividedAll, freightPart, passengerPart, weights, partAt, closingShare, exactShare, exactIn, over, plus}
+use Rattle.book_shares.specs.Shares.{dividedAll, freightPart, passengerPart, weights, partAt, closingShare, exactShare, exactOf, over, plus}
 use Rattle.book_shares.specs.Sums.{pool, among, activityAmong, passengersByMass, goesTo, takes}
 use Rattle.apportion.proofs.Laws.{shares-length, shares-sum, share-of-zero, share-near}
 use Rattle.apportion.proofs.Lists.{list-length, list-at, list-past, list-sum}
@@ -287,8 +287,8 @@ module _ (ws : List ℕ) (category : ℕ) (side : Side) (h : Handed ws category 
   abbrev Near : Type 0
   Near =
       Within 3 (closingShare ws category side p)
-      (exactIn ws category side (elementAt ws p) .numerator)
-      (exactIn ws category side (elementAt ws p) .denominator)
+      (exactOf ws category side (elementAt ws p) .numerator)
+      (exactOf ws category side (elementAt ws p) .denominator)
 
   ambient-near : code ≡ 0 → Near
   ambient-near e = rw (ambient-alone e, exact-ambient) (near-weaken (omega arith) (freight-near (omega arith)))
@@ -310,8 +310,8 @@ module _ (ws : List ℕ) (category : ℕ) (side : Side) (h : Handed ws category 
 pub share-within : (ws : List ℕ) (category : ℕ) (side : Side) → Handed ws category side → (p : ℕ) → p < elements ws
     → elementAt ws p .category ≡ category → isCode (elementAt ws p .code) ≡ true → 0 < elementAt ws p .activity
     → Within 3 (closingShare ws category side p)
-    (exactIn ws category side (elementAt ws p) .numerator)
-    (exactIn ws category side (elementAt ws p) .denominator)
+    (exactOf ws category side (elementAt ws p) .numerator)
+    (exactOf ws category side (elementAt ws p) .denominator)
 share-within ws category side h p here same known some =
     ⊎-elim
     (λ (l : elementAt ws p .code < 3).

@@ -65,8 +65,8 @@ exactShare A F P C B S code activity =
     (over (A * P * activity) ((F + P) * C))
 
 -- the exact share of an element in the category, by the sums of the book
-abbrev pub exactIn : List ℕ → ℕ → Side → Element → Fraction
-exactIn ws category side e =
+abbrev pub exactOf : List ℕ → ℕ → Side → Element → Fraction
+exactOf ws category side e =
     exactShare
     (pool ws category 0 side)
     (activityAmong ws category Freight)

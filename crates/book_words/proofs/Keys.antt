@@ -12,7 +12,7 @@ use Rattle.apportion.specs.Places.{sumBelow}
 use Rattle.apportion.proofs.Sums.{sum-cong, sum-add, sum-zero}
 
 -- sums over two lists of places change their order
-pub sum-swap : (m n : ℕ) (f : ℕ → ℕ → ℕ) → sumBelow m (λ j. sumBelow n (λ k. f j k)) ≡ sumBelow n (λ k. sumBelow m (λ j. f j k))
+sum-swap : (m n : ℕ) (f : ℕ → ℕ → ℕ) → sumBelow m (λ j. sumBelow n (λ k. f j k)) ≡ sumBelow n (λ k. sumBelow m (λ j. f j k))
 sum-swap zero n f = sym (sum-zero n (λ k. 0) (λ k h. refl))
 sum-swap (suc m) n f =
     omega (arith, sum-swap m n f, sum-add n (λ k. sumBelow m (λ j. f j k)) (λ k. f m k))

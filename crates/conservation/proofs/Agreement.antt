@@ -16,12 +16,12 @@ use Rattle.book_words.specs.declared.records.Element.{Element}
 use Rattle.book_words.specs.declared.records.Entry.{Entry}
 use Rattle.book_shares.specs.declared.weights.Takers.{Takers}
 use Rattle.book_shares.specs.declared.weights.Takers.the-variants.{Freight, Passengers, Group}
-use Rattle.book_shares.specs.Shares.{exactShare, exactIn}
+use Rattle.book_shares.specs.Shares.{exactShare, exactOf}
 use Rattle.book_shares.specs.Sums.{among, pooled, pool, activityAmong, passengersByMass}
 use Rattle.book.specs.Statements.{waits}
 use Rattle.apportion.proofs.Sums.{sum-cong}
 use Rattle.book_words.proofs.Handed.{entry-category, category-inside}
-use Rattle.conservation.specs.Conserved.{sumNumbered, chainOf, waitsIn, unstruckIn, closedAmount, quotedAmountOf, amongIn, poolIn, activityIn, massIn, exactOf}
+use Rattle.conservation.specs.Conserved.{sumNumbered, chainOf, waitsIn, unstruckIn, entryEmissions, elementEmissions, amongIn, poolIn, activityIn, massIn, exactIn}
 use Rattle.conservation.specs.Tally.{TallyEntry, TallyElement, Enrolment, Quotation, enrolled, quoted, numbered}
 use Rattle.conservation.proofs.Listing.{sum-listing, numbered-some}
 use Rattle.conservation.proofs.Reading.{readEntry, enrolmentOf, quotationOf, readElement, tallyOf, closed-read}
@@ -75,10 +75,10 @@ unstruck-read provision r = go (eqb (r .struck) 0)
     go true = refl
     go false = refl
 
-quoted-read : (side : Side) (r : Element) → quotedAmountOf side (readElement r) ≡ cond (eqb (r .category) 0) (shareOf side r) 0
-quoted-read side r = go side (eqb (r .category) 0)
+element-emissions-read : (side : Side) (r : Element) → elementEmissions side (readElement r) ≡ cond (eqb (r .category) 0) (shareOf side r) 0
+element-emissions-read side r = go side (eqb (r .category) 0)
   where
-    go : (s : Side) (t : Bool) → quotedAmountOf s (cond t (quoted (quotationOf r)) (enrolled (enrolmentOf r))) ≡ cond t (shareOf s r) 0
+    go : (s : Side) (t : Bool) → elementEmissions s (cond t (quoted (quotationOf r)) (enrolled (enrolmentOf r))) ≡ cond t (shareOf s r) 0
     go operation true = refl
     go operation false = refl
     go provision true = refl
@@ -138,8 +138,8 @@ module _ (ws : List ℕ) where
         (λ p h. among-read category enrols Passengers (λ x. x .amount * 100 * x .distance) byMass (λ r. refl) (elementAt ws p))
 
   -- the exact share by the tally's sums is that by the book's
-  pub exact-read : (r : Element) (side : Side) → (r .category ≡ 0 → ⊥) → exactOf (tallyOf ws) side (enrolmentOf r) ≡ exactIn ws (r .category) side r
-  unfolding exactOf exactShare
+  pub exact-read : (r : Element) (side : Side) → (r .category ≡ 0 → ⊥) → exactIn (tallyOf ws) side (enrolmentOf r) ≡ exactOf ws (r .category) side r
+  unfolding exactIn exactShare
   exact-read r side enrols =
       rw (
         pool-read (r .category) 0 side,
@@ -163,26 +163,26 @@ module _ (ws : List ℕ) where
             ap not (closed-read ws (elementAt ws p .category) (omega arith) (category-inside ws fine p h))
 
     -- the emissions that the tally counts are those of the book
-    closed-amount-read : (side : Side) (p : ℕ) → p < entries ws
-        → closedAmount (tallyOf ws) side (readEntry (entryAt ws p)) ≡ cond (isClosed ws (entryAt ws p .category)) (unstruck side (entryAt ws p)) 0
-    closed-amount-read side p h =
+    entry-emissions-read : (side : Side) (p : ℕ) → p < entries ws
+        → entryEmissions (tallyOf ws) side (readEntry (entryAt ws p)) ≡ cond (isClosed ws (entryAt ws p .category)) (unstruck side (entryAt ws p)) 0
+    entry-emissions-read side p h =
         let inside = entry-category ws fine p h in
         rw (closed-read ws (entryAt ws p .category) (inside .0) (inside .1), unstruck-read side (entryAt ws p))
 
-    pub closed-sum : (side : Side) → sumNumbered (tallyOf ws .entries) (λ k e. closedAmount (tallyOf ws) side e)
+    pub closed-sum : (side : Side) → sumNumbered (tallyOf ws .entries) (λ k e. entryEmissions (tallyOf ws) side e)
         ≡ sumBelow (entries ws) (λ p. cond (isClosed ws (entryAt ws p .category)) (unstruck side (entryAt ws p)) 0)
     closed-sum side =
-        entries-sum (λ k e. closedAmount (tallyOf ws) side e)
+        entries-sum (λ k e. entryEmissions (tallyOf ws) side e)
         ∙ sum-cong (entries ws)
-        (λ p. closedAmount (tallyOf ws) side (readEntry (entryAt ws p)))
+        (λ p. entryEmissions (tallyOf ws) side (readEntry (entryAt ws p)))
         (λ p. cond (isClosed ws (entryAt ws p .category)) (unstruck side (entryAt ws p)) 0)
-        (closed-amount-read side)
+        (entry-emissions-read side)
 
-  pub quoted-sum : (side : Side) → sumNumbered (tallyOf ws .elements) (λ k e. quotedAmountOf side e)
+  pub quoted-sum : (side : Side) → sumNumbered (tallyOf ws .elements) (λ k e. elementEmissions side e)
       ≡ sumBelow (elements ws) (λ p. cond (eqb (elementAt ws p .category) 0) (shareOf side (elementAt ws p)) 0)
   quoted-sum side =
-      elements-sum (λ k e. quotedAmountOf side e)
+      elements-sum (λ k e. elementEmissions side e)
       ∙ sum-cong (elements ws)
-      (λ p. quotedAmountOf side (readElement (elementAt ws p)))
+      (λ p. elementEmissions side (readElement (elementAt ws p)))
       (λ p. cond (eqb (elementAt ws p .category) 0) (shareOf side (elementAt ws p)) 0)
-      (λ p h. quoted-read side (elementAt ws p))
+      (λ p h. element-emissions-read side (elementAt ws p))

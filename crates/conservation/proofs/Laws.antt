@@ -14,9 +14,9 @@ use Rattle.book_words.specs.Book.{elements, elementAt, isClosed}
 use Rattle.book_words.specs.Measures.{isChain}
 use Rattle.book_words.specs.Soundness.{sound}
 use Rattle.book_words.specs.Totals.{Side, operation, provision, shareOf, sharesOf}
-use Rattle.book_shares.specs.Shares.{exactIn}
+use Rattle.book_shares.specs.Shares.{exactOf}
 use Rattle.book.specs.Calls.{openRefusal, postRefusal, strikeRefusal, enrolRefusal, quoteRefusal}
-use Rattle.book.specs.Statements.{statementReply, statementBy, elementsOn, waitingOn, sharesOn, ofChain, waits}
+use Rattle.book.specs.Statements.{statementReply, statementOf, elementsOn, waitingOn, sharesOn, ofChain, waits}
 use Rattle.book_shares.specs.Closing.{closeRefusal}
 use Rattle.apportion.proofs.Sums.{sum-cong}
 use Rattle.book_words.proofs.Booleans.{and-both}
@@ -24,12 +24,13 @@ use Rattle.book_words.proofs.Handed.{category-inside, open-shares, shares-all, 
 use Rattle.book.proofs.Laws.{fresh-accepted, fresh-sound, open-sound, open-refused, post-sound, post-refused, strike-sound, strike-refused, enrol-sound, enrol-refused, quote-sound, quote-refused, close-sound, close-refused, statement-accepted}
 use Rattle.conservation.specs.declared.Call.{Call}
 use Rattle.conservation.specs.declared.Call.the-variants.{Open, Post, Strike, Enrol, Quote, Close}
-use Rattle.conservation.specs.Conserved.{gets, chainOf, waitsIn, chainGets, statementIn, quotedOn, statedOn, emissions, exactOf, chains, Conserved, Conservation}
+use Rattle.conservation.specs.Conserved.{gets, chainOf, waitsIn, chainGets, statementIn, quotedOn, statedOn, emissions, exactIn, chains, Conserved, Conservation}
 use Rattle.conservation.specs.Runs.{Run, step, next, after, runOf}
 use Rattle.conservation.specs.Tally.{Enrolment, Quotation, enrolled, quoted, numbered, closedIn, feed}
 use Rattle.conservation.proofs.Near.{Near, near-fresh, near-open, near-post, near-strike, near-enrol, near-quote, near-close}
 use Rattle.conservation.proofs.Reading.{enrolmentOf, quotationOf, readElement, tallyOf, closed-read, fresh-read, step-read}
 use Rattle.conservation.proofs.Agreement.{read-enrolled, read-quoted, chain-read, elements-sum, element-told, exact-read, waits-read, closed-sum, quoted-sum}
+pub use Rattle.conservation.proofs.Listing.{numbered-each}
 
 -- a sound book whose closed categories' shares are near, with the tally that it is read as
 module _ (ws : List ℕ) (fine : sound ws ≡ true) where
@@ -37,7 +38,7 @@ module _ (ws : List ℕ) (fine : sound ws ≡ true) where
   known chain low high = and-both (leb 1 chain) (leb chain 10_000) (le-leb 1 chain low) (le-leb chain 10_000 high)
 
   -- the counts and sums of a statement are the tally's
-  counted : (chain : ℕ) → elementsOn ws (elements ws) chain ≡ statementIn (tallyOf ws) ws chain .elements
+  counted : (chain : ℕ) → elementsOn ws chain ≡ statementIn (tallyOf ws) ws chain .elements
   unfolding elementsOn
   counted chain =
       sym
@@ -47,7 +48,7 @@ module _ (ws : List ℕ) (fine : sound ws ≡ true) where
       (λ p. oneIf (ofChain chain (elementAt ws p)))
       (λ p h. ap (λ (n : ℕ). oneIf (eqb n chain)) (chain-read (elementAt ws p))))
 
-  waiting : (chain : ℕ) → waitingOn ws (elements ws) chain ≡ statementIn (tallyOf ws) ws chain .waiting
+  waiting : (chain : ℕ) → waitingOn ws chain ≡ statementIn (tallyOf ws) ws chain .waiting
   unfolding waitingOn
   waiting chain =
       sym
@@ -57,7 +58,7 @@ module _ (ws : List ℕ) (fine : sound ws ≡ true) where
       (λ p. oneIf (ofChain chain (elementAt ws p) && waits ws (elementAt ws p)))
       (λ p h. rw (chain-read (elementAt ws p), waits-read ws fine p h)))
 
-  gotten : (chain : ℕ) (side : Side) → sharesOn ws (elements ws) chain side ≡ chainGets (tallyOf ws) ws chain side
+  gotten : (chain : ℕ) (side : Side) → sharesOn ws chain side ≡ chainGets (tallyOf ws) ws chain side
   unfolding sharesOn
   gotten chain side =
       sym
@@ -70,24 +71,24 @@ module _ (ws : List ℕ) (fine : sound ws ≡ true) where
       rw (chain-read (elementAt ws p), back)))
 
   stated : (chain : ℕ) → 1 ≤ chain → chain ≤ chains → statementReply ws chain ≡ statementIn (tallyOf ws) ws chain
-  unfolding statementBy
+  unfolding statementOf
   stated chain low high =
       statement-accepted ws chain fine (known chain low high)
       ∙ rw (counted chain, waiting chain, gotten chain operation, gotten chain provision)
 
   -- what the statement of a chain says of a side
-  said : (side : Side) (p : ℕ) → p < chains → statedOn side (statementReply ws (p + 1)) ≡ sharesOn ws (elements ws) (p + 1) side
-  unfolding statementBy
+  said : (side : Side) (p : ℕ) → p < chains → statedOn side (statementReply ws (p + 1)) ≡ sharesOn ws (p + 1) side
+  unfolding statementOf
   said side p h = ap (statedOn side) (statement-accepted ws (p + 1) fine (known (p + 1) (omega arith) (omega arith))) ∙ of-side side
     where
-      of-side : (s : Side) → statedOn s (statementBy ws (elements ws) (p + 1)) ≡ sharesOn ws (elements ws) (p + 1) s
+      of-side : (s : Side) → statedOn s (statementOf ws (p + 1)) ≡ sharesOn ws (p + 1) s
       of-side operation = refl
       of-side provision = refl
 
   handed : (side : Side) → sumBelow chains (λ p. statedOn side (statementReply ws (p + 1))) ≡ emissions (tallyOf ws) side
   unfolding sharesOn emissions sharesOf
   handed side =
-      sum-cong chains (λ p. statedOn side (statementReply ws (p + 1))) (λ p. sharesOn ws (elements ws) (p + 1) side) (said side)
+      sum-cong chains (λ p. statedOn side (statementReply ws (p + 1))) (λ p. sharesOn ws (p + 1) side) (said side)
       ∙ shares-by-chain ws fine side
       ∙ shares-all ws fine side
       ∙ sym (rw (closed-sum ws fine side, quoted-sum ws side))
@@ -118,7 +119,7 @@ module _ (ws : List ℕ) (fine : sound ws ≡ true) where
         closed-near = λ k e is closed side.
             let r = elementAt ws (k - 1) in
             let there = record-read k e is in
-            let exact : exactOf (tallyOf ws) side e ≡ exactIn ws (r .category) side r = ap (exactOf (tallyOf ws) side) (sym (there .1)) ∙ exact-read ws r side (there .0) in
+            let exact : exactIn (tallyOf ws) side e ≡ exactOf ws (r .category) side r = ap (exactIn (tallyOf ws) side) (sym (there .1)) ∙ exact-read ws r side (there .0) in
             rw exact (near (k - 1) (inside k e is) (there .0) (category-closed k e is true closed) side);
         quoted-exact = λ k q is side. of-side side k q (read-quoted (elementAt ws (k - 1)) q (element-told ws k (quoted q) is .2) .1);
         open-none = λ k e is unclosed side. open-shares ws fine (k - 1) (inside k e is) (record-read k e is .0) (category-closed k e is false unclosed) side;

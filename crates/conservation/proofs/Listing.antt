@@ -24,12 +24,12 @@ listing-length zero f = refl
 listing-length (suc n) f = omega (arith, length-append (listing n f) (f n ∷ []), listing-length n f)
 
 -- functions that give the same below n list the same
-pub listing-cong : {A : Type 0} (n : ℕ) (f g : ℕ → A) → ((k : ℕ) → k < n → f k ≡ g k) → listing n f ≡ listing n g
+listing-cong : {A : Type 0} (n : ℕ) (f g : ℕ → A) → ((k : ℕ) → k < n → f k ≡ g k) → listing n f ≡ listing n g
 listing-cong zero f g same = refl
 listing-cong (suc n) f g same = rw (listing-cong n f g (λ k h. same k (omega arith)), same n (omega arith))
 
 -- one more, as the calls count
-pub listing-next : {A : Type 0} (n : ℕ) (f : ℕ → A) → listing (n + 1) f ≡ listing n f ++ (f n ∷ [])
+listing-next : {A : Type 0} (n : ℕ) (f : ℕ → A) → listing (n + 1) f ≡ listing n f ++ (f n ∷ [])
 listing-next n f = rw add-one
 
 -- the same records in as many places
@@ -66,6 +66,11 @@ numbered-past (x ∷ xs) zero h = refl
 numbered-past (x ∷ xs) (suc zero) h = let z : ⊥ = omega arith in absurd z
 numbered-past (x ∷ xs) (suc (suc k)) h = numbered-past xs (suc k) (omega arith)
 
+-- the records of a list have the numbers from 1 on, in their order
+pub numbered-each : {A : Type 0} (xs : List A) (y : A) (zs : List A) → numbered (xs ++ (y ∷ zs)) (length xs + 1) ≡ some y
+numbered-each [] y zs = refl
+numbered-each (x ∷ xs) y zs = rw add-one (rw add-one at (numbered-each xs y zs))
+
 -- the record of a number
 pub numbered-at : {A : Type 0} (n : ℕ) (f : ℕ → A) (p : ℕ) → p < n → numbered (listing n f) (p + 1) ≡ some (f p)
 numbered-at zero f p h = let z : ⊥ = omega arith in absurd z
@@ -79,7 +84,7 @@ numbered-at (suc n) f p h =
     (eq-or-lt-of-le h)
 
 -- a number that is not from 1 to n has no record
-pub numbered-none : {A : Type 0} (n : ℕ) (f : ℕ → A) (k : ℕ) → (k < 1) ⊎ (n < k) → numbered (listing n f) k ≡ none
+numbered-none : {A : Type 0} (n : ℕ) (f : ℕ → A) (k : ℕ) → (k < 1) ⊎ (n < k) → numbered (listing n f) k ≡ none
 numbered-none n f k =
     ⊎-elim
     (λ (l : k < 1). let is-zero : k ≡ 0 = omega arith in ap (numbered (listing n f)) is-zero ∙ numbered-zero (listing n f))

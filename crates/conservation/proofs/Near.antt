@@ -13,7 +13,7 @@ use Rattle.book_words.specs.Totals.{Side, shareOf}
 use Rattle.book_words.specs.declared.records.Category.{Category}
 use Rattle.book_words.specs.declared.records.Element.{Element}
 use Rattle.book_shares.specs.Closing.{closeRefusal, closeBook}
-use Rattle.book_shares.specs.Shares.{Fraction, closingShare, exactIn}
+use Rattle.book_shares.specs.Shares.{Fraction, closingShare, exactOf}
 use Rattle.book.specs.Calls.{freshBook, openRefusal, openBook, postRefusal, postBook, postedEntry, strikeRefusal, strikeBook, enrolRefusal, enrolBook, enrolledElement, quoteRefusal, quoteBook, quotedElement}
 use Rattle.apportion.proofs.Sums.{below-or-not}
 use Rattle.book_words.proofs.Kept.{same-or-not}
@@ -23,7 +23,7 @@ use Rattle.book_words.proofs.Views.{ElementAdded}
 use Rattle.book_words.proofs.Wholes.{Whole, sound-whole}
 use Rattle.book_shares.proofs.Closable.{closable}
 use Rattle.book_shares.proofs.Closed.{CategoryClosed}
-use Rattle.book.proofs.Accepting.{opened, posted, struck, enrolled, quoted}
+use Rattle.book.proofs.Accepting.{opened, posted, struck, enrolled as enrolment-accepted, quoted as quote-accepted}
 use Rattle.book.proofs.Laws.{fresh-made, open-added, post-added, strike-struck, enrol-added, quote-added, close-closed, share-near-exact}
 use Rattle.conservation.proofs.Unmoved.{EntriesUnmoved, ElementsUnmoved, entries-stay, entry-more, entry-less, entries-shared, elements-shared, exact-same}
 
@@ -31,7 +31,7 @@ use Rattle.conservation.proofs.Unmoved.{EntriesUnmoved, ElementsUnmoved
 abbrev pub Near : List ℕ → Type 0
 Near ws =
     (p : ℕ) → p < elements ws → (elementAt ws p .category ≡ 0 → ⊥) → isClosed ws (elementAt ws p .category) ≡ true → (side : Side)
-    → Within 3 (shareOf side (elementAt ws p)) (exactIn ws (elementAt ws p .category) side (elementAt ws p) .numerator) (exactIn ws (elementAt ws p .category) side (elementAt ws p) .denominator)
+    → Within 3 (shareOf side (elementAt ws p)) (exactOf ws (elementAt ws p .category) side (elementAt ws p) .numerator) (exactOf ws (elementAt ws p .category) side (elementAt ws p) .denominator)
 
 -- this element's share is so near to an exact share
 abbrev ShareNear : Side → Element → Fraction → Type 0
@@ -56,12 +56,12 @@ module _ (ws ws′ : List ℕ) where
 
   -- such an element is as near as it was
   near-held : Near ws → (p : ℕ) → (elementAt ws′ p .category ≡ 0 → ⊥) → Held p → (side : Side)
-      → ShareNear side (elementAt ws′ p) (exactIn ws′ (elementAt ws′ p .category) side (elementAt ws′ p))
+      → ShareNear side (elementAt ws′ p) (exactOf ws′ (elementAt ws′ p .category) side (elementAt ws′ p))
   near-held near p some k side =
       let category = elementAt ws p .category in
-      near-same side (elementAt ws p) (elementAt ws′ p) (exactIn ws category side (elementAt ws p)) (exactIn ws′ (elementAt ws′ p .category) side (elementAt ws′ p))
+      near-same side (elementAt ws p) (elementAt ws′ p) (exactOf ws category side (elementAt ws p)) (exactOf ws′ (elementAt ws′ p .category) side (elementAt ws′ p))
       (ap (shareOf side) (k .same))
-      (ap (λ (r : Element). exactIn ws′ (r .category) side r) (k .same) ∙ exact-same ws ws′ category (k .entries-unmoved) (k .elements-unmoved) side (elementAt ws p))
+      (ap (λ (r : Element). exactOf ws′ (r .category) side r) (k .same) ∙ exact-same ws ws′ category (k .entries-unmoved) (k .elements-unmoved) side (elementAt ws p))
       (near p (k .inside) (λ e. some (ap (λ (r : Element). r .category) (k .same) ∙ e)) (k .closed-before) side)
 
   -- Of the closed categories all is as it was, and any further element is quoted or of an open category.
@@ -132,13 +132,13 @@ module _ (ws ws′ : List ℕ) where
   module _ (category : ℕ) (share : Side → ℕ → ℕ) (w : Whole ws) (a : CategoryClosed ws ws′ category share) where
     -- its own elements: what is near to the exact share by the sums before is near to that by the sums after
     shared-near : (p : ℕ) → p < elements ws → elementAt ws p .category ≡ category → (side : Side)
-        → ShareNear side (elementAt ws′ p) (exactIn ws category side (elementAt ws p))
-        → ShareNear side (elementAt ws′ p) (exactIn ws′ (elementAt ws′ p .category) side (elementAt ws′ p))
+        → ShareNear side (elementAt ws′ p) (exactOf ws category side (elementAt ws p))
+        → ShareNear side (elementAt ws′ p) (exactOf ws′ (elementAt ws′ p .category) side (elementAt ws′ p))
     shared-near p h is side =
-        near-same side (elementAt ws′ p) (elementAt ws′ p) (exactIn ws category side (elementAt ws p)) (exactIn ws′ (elementAt ws′ p .category) side (elementAt ws′ p))
+        near-same side (elementAt ws′ p) (elementAt ws′ p) (exactOf ws category side (elementAt ws p)) (exactOf ws′ (elementAt ws′ p .category) side (elementAt ws′ p))
         refl
-        (ap (λ (r : Element). exactIn ws′ (r .category) side r) (a .element-shared p h is)
-        ∙ ap (λ (number : ℕ). exactIn ws′ number side (elementAt ws p)) is
+        (ap (λ (r : Element). exactOf ws′ (r .category) side r) (a .element-shared p h is)
+        ∙ ap (λ (number : ℕ). exactOf ws′ number side (elementAt ws p)) is
         ∙ exact-same ws ws′ category (entries-shared ws ws′ category category share (w .counts .entries-most) a) (elements-shared ws ws′ category category share a) side (elementAt ws p))
 
     -- the elements of other closed categories are held
@@ -215,7 +215,7 @@ near-strike ws entry e =
 pub near-enrol : (ws : List ℕ) (category chain code amount distance : ℕ) → enrolRefusal ws category chain code amount distance ≡ 0 → Near ws
     → Near (enrolBook ws category chain code amount distance)
 near-enrol ws category chain code amount distance e =
-    let ok = enrolled ws category chain code amount distance e in
+    let ok = enrolment-accepted ws category chain code amount distance e in
     element-near ws (enrolBook ws category chain code amount distance) (enrolledElement ws category chain code amount distance) (sound-whole ws (ok .fine))
     (enrol-added ws category chain code amount distance e)
     (λ some. (between-high 1 (categories ws) category (ok .numbered), ok .unclosed))
@@ -226,7 +226,7 @@ pub near-quote : (ws : List ℕ) (chain adjust mass distance operationIntensity 
 near-quote ws chain adjust mass distance operationIntensity provisionIntensity e =
     let new = quoteBook ws chain adjust mass distance operationIntensity provisionIntensity in
     let element = quotedElement chain adjust mass distance operationIntensity provisionIntensity in
-    element-near ws new element (sound-whole ws (quoted ws chain adjust mass distance operationIntensity provisionIntensity e .fine))
+    element-near ws new element (sound-whole ws (quote-accepted ws chain adjust mass distance operationIntensity provisionIntensity e .fine))
     (quote-added ws chain adjust mass distance operationIntensity provisionIntensity e)
     (λ some. absurd (some refl))
 

@@ -31,7 +31,7 @@ use Rattle.conservation.specs.Tally.{TallyCategory, TallyEntry, Enrolmen
 use Rattle.conservation.proofs.Listing.{listing, listing-same, listing-more, numbered-at, changed-at}
 
 -- a category of the book as the tally has it
-abbrev pub readCategory : Category → TallyCategory
+abbrev readCategory : Category → TallyCategory
 readCategory r = record { kind = r .kind; closed = not (eqb (r .closed) 0) }
 
 -- an entry, likewise
@@ -93,7 +93,7 @@ module _ (ws : List ℕ) where
   closed-read category low high = ap closedOf (category-read category low high)
 
   -- a category's kind, read from the book
-  pub kind-read : (category : ℕ) → 1 ≤ category → category ≤ categories ws → kindOf (numbered (tallyOf ws .categories) category) ≡ categoryOf ws category .kind
+  kind-read : (category : ℕ) → 1 ≤ category → category ≤ categories ws → kindOf (numbered (tallyOf ws .categories) category) ≡ categoryOf ws category .kind
   kind-read category low high = ap kindOf (category-read category low high)
 
 module _ (ws ws′ : List ℕ) where

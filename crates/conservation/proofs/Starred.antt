@@ -1,6 +1,6 @@
 -- The starred cases, computed. Assumes nothing.
 use mathlib.Core.Path.{refl}
-use Rattle.apportion.specs.Dividing.{divided, floorAt, remainderAt, leftOver, before, rank, unitFor, unitAt, shareAt}
+use Rattle.apportion.specs.Dividing.{refusal, sharesAfter, divided, floorAt, remainderAt, leftOver, before, rank, unitFor, unitAt, shareAt}
 use Rattle.apportion.specs.Places.{sumOf}
 use Rattle.book_words.specs.Book.{addCategory, addEntry, addElement}
 use Rattle.book_words.specs.Measures.{activityOf, massActivity}
@@ -21,7 +21,7 @@ _and_ a b = (a, b)
 
 -- Every starred case holds.
 pub starred-hold : EveryRow starred
-unfolding divided floorAt remainderAt leftOver before rank unitFor unitAt shareAt sumOf cleared freshRefusal freshBook
+unfolding refusal sharesAfter divided floorAt remainderAt leftOver before rank unitFor unitAt shareAt sumOf cleared freshRefusal freshBook
     addCategory addEntry addElement activityOf massActivity headerFine categoryFine entrySuits entryFine measured quotedSuits
     elementSuits elementFine sumsFine sharesFine categoriesFine entriesFine elementsFine closingsFine sound allUnstruck unstruckOf
     sharesOf activities closeRefusal closeWith closeBook dividedAll weights partAt closingShare poolOf activityAmong

@@ -12,7 +12,7 @@ use Rattle.book_words.specs.Measures.{byMass}
 use Rattle.book_words.specs.Totals.{Side}
 use Rattle.book_words.specs.declared.records.Element.{Element}
 use Rattle.book_words.specs.declared.records.Entry.{Entry}
-use Rattle.book_shares.specs.Shares.{exactIn, exactShare}
+use Rattle.book_shares.specs.Shares.{exactOf, exactShare}
 use Rattle.book_shares.specs.Sums.{pooled, pool, among, sumAmong, activityAmong, passengersByMass}
 use Rattle.book_shares.specs.declared.weights.Takers.{Takers}
 use Rattle.book_shares.specs.declared.weights.Takers.the-variants.{Freight, Passengers, Group}
@@ -132,7 +132,7 @@ module _ (ws ws′ : List ℕ) (category : ℕ) where
   passengers-same u = among-same u Passengers byMass (λ r x y. refl)
 
   -- and so is every exact share by these sums
-  pub exact-same : EntriesUnmoved ws ws′ category → ElementsUnmoved ws ws′ category → (side : Side) (r : Element) → exactIn ws′ category side r ≡ exactIn ws category side r
+  pub exact-same : EntriesUnmoved ws ws′ category → ElementsUnmoved ws ws′ category → (side : Side) (r : Element) → exactOf ws′ category side r ≡ exactOf ws category side r
   unfolding exactShare
   exact-same u v side r =
       rw (

@@ -31,6 +31,10 @@ sumFrom number (x ∷ xs) f = f number x + sumFrom (number + 1) xs f
 abbrev pub sumNumbered : {A : Type 0} → List A → (ℕ → A → ℕ) → ℕ
 sumNumbered xs f = sumFrom 1 xs f
 
+-- the same of what does not look at the numbers
+abbrev pub sumOver : {A : Type 0} → List A → (A → ℕ) → ℕ
+sumOver xs f = sumNumbered xs (λ k x. f x)
+
 -- "What element k gets is the two share words of the book's element record k"
 abbrev pub gets : List ℕ → ℕ → Side → ℕ
 gets ws k side = shareOf side (elementAt ws (k - 1))
@@ -54,8 +58,8 @@ abbrev pub statementIn : Tally → List ℕ → ℕ → Statement
 statementIn t ws chain =
     record {
       refusal = 0;
-      elements = sumNumbered (t .elements) (λ k e. oneIf (eqb (chainOf e) chain));
-      waiting = sumNumbered (t .elements) (λ k e. oneIf (eqb (chainOf e) chain && waitsIn t e));
+      elements = sumOver (t .elements) (λ e. oneIf (eqb (chainOf e) chain));
+      waiting = sumOver (t .elements) (λ e. oneIf (eqb (chainOf e) chain && waitsIn t e));
       operation = chainGets t ws chain operation;
       provision = chainGets t ws chain provision;
       total = chainGets t ws chain operation + chainGets t ws chain provision;
@@ -74,40 +78,40 @@ abbrev pub statedOn : Side → Statement → ℕ
 statedOn operation s = s .operation
 statedOn provision s = s .provision
 
--- the amounts of "closed categories and quotes"
-abbrev pub closedAmount : Tally → Side → TallyEntry → ℕ
-closedAmount t side e = cond (closedIn t (e .category)) (unstruckIn side e) 0
+-- "all emissions of closed categories and quotes": what an entry adds to them, what an element does, and their sum
+abbrev pub entryEmissions : Tally → Side → TallyEntry → ℕ
+entryEmissions t side e = cond (closedIn t (e .category)) (unstruckIn side e) 0
 
-abbrev pub quotedAmountOf : Side → TallyElement → ℕ
-quotedAmountOf side (enrolled e) = 0
-quotedAmountOf side (quoted q) = quotedOn side q
+abbrev pub elementEmissions : Side → TallyElement → ℕ
+elementEmissions side (enrolled e) = 0
+elementEmissions side (quoted q) = quotedOn side q
 
 unfoldable pub emissions : Tally → Side → ℕ
 emissions t side =
-    sumNumbered (t .entries) (λ k e. closedAmount t side e) + sumNumbered (t .elements) (λ k e. quotedAmountOf side e)
+    sumOver (t .entries) (entryEmissions t side) + sumOver (t .elements) (elementEmissions side)
 
 -- "The A, B, F, P, C and S of its exact shares are sums over the tally too.": A and B are the pools of groups 0, 1 and 2
 unfoldable pub poolIn : Tally → ℕ → ℕ → Side → ℕ
 poolIn t category group side =
-    sumNumbered (t .entries) (λ k e. cond (eqb (e .category) category) (cond (eqb (e .group) group) (unstruckIn side e) 0) 0)
+    sumOver (t .entries) (λ e. cond (eqb (e .category) category) (cond (eqb (e .group) group) (unstruckIn side e) 0) 0)
 
--- what an enrolment in the category measures whose code is one of these; 0 for any other element
+-- what an enrolment in the category, with a code that these takers have, measures; 0 for any other element
 abbrev pub amongIn : ℕ → Takers → (Enrolment → ℕ) → TallyElement → ℕ
 amongIn category takers measure (enrolled e) =
     cond (eqb (e .category) category && takes takers (e .code)) (measure e) 0
 amongIn category takers measure (quoted q) = 0
 
--- F, C and S
+-- "F is the freight activity", "C is the passengers' activity", and S is a group's "activity"
 unfoldable pub activityIn : Tally → ℕ → Takers → ℕ
-activityIn t category takers = sumNumbered (t .elements) (λ k e. amongIn category takers (λ x. x .activity) e)
+activityIn t category takers = sumOver (t .elements) (amongIn category takers (λ e. e .activity))
 
--- P
+-- "P is the sum of head count × 100 × distance (100 kg per passenger, Annex A.4.2)"
 unfoldable pub massIn : Tally → ℕ → ℕ
-massIn t category = sumNumbered (t .elements) (λ k e. amongIn category Passengers (λ x. x .amount * 100 * x .distance) e)
+massIn t category = sumOver (t .elements) (amongIn category Passengers (λ e. e .amount * 100 * e .distance))
 
 -- the exact share of an enrolment, by these sums
-unfoldable pub exactOf : Tally → Side → Enrolment → Fraction
-exactOf t side e =
+unfoldable pub exactIn : Tally → Side → Enrolment → Fraction
+exactIn t side e =
     exactShare
     (poolIn t (e .category) 0 side)
     (activityIn t (e .category) Freight)
@@ -130,7 +134,7 @@ pub record Conserved (t : Tally) (ws : List ℕ) : Type 0 where
   pub all-handed-out : (side : Side) → sumBelow chains (λ p. statedOn side (statementReply ws (p + 1))) ≡ emissions t side
   -- "every share of a closed category is less than 3 micrograms from its exact fraction"
   pub closed-near : (k : ℕ) (e : Enrolment) → numbered (t .elements) k ≡ some (enrolled e) → closedIn t (e .category) ≡ true
-      → (side : Side) → Within 3 (gets ws k side) (exactOf t side e .numerator) (exactOf t side e .denominator)
+      → (side : Side) → Within 3 (gets ws k side) (exactIn t side e .numerator) (exactIn t side e .denominator)
   -- "quoted elements hold exactly their amounts,"
   pub quoted-exact : (k : ℕ) (q : Quotation) → numbered (t .elements) k ≡ some (quoted q) → (side : Side) → gets ws k side ≡ quotedOn side q
   -- "open categories none."
@@ -140,5 +144,5 @@ pub record Conserved (t : Tally) (ws : List ℕ) : Type 0 where
 -- "One theorem over whole lists": an accepted fresh on any words that have room for a book, then any calls
 abbrev pub Conservation : Type 0
 Conservation =
-    (ws : List ℕ) → bookLength ≤ length ws → (calls : List Call)
-    → (freshRefusal ws ≡ 0) × Conserved (runOf ws calls .tally) (runOf ws calls .book)
+    (words : List ℕ) → bookLength ≤ length words → (calls : List Call)
+    → (freshRefusal words ≡ 0) × Conserved (runOf words calls .tally) (runOf words calls .book)

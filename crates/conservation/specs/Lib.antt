@@ -1,4 +1,4 @@
-pub mod Runs
 pub mod Tally
+pub mod Runs
 pub mod Conserved
 pub mod Starred

@@ -17,6 +17,7 @@ pub record Step : Type 0 where
 abbrev pub refusalAlone : ℕ → Reply
 refusalAlone refusal = record { refusal = refusal; number = 0 }
 
+-- a call; the contract of `perform` is that it answers and leaves this
 abbrev pub step : List ℕ → Call → Step
 step ws (Open kind) = record { reply = openReply ws kind; book = openBook ws kind }
 step ws (Post category group quantity operationFactor provisionFactor) =

@@ -2,8 +2,8 @@
 use mathlib.Core.List.{List, [], _∷_}
 use mathlib.Core.Path.{_≡_}
 use Prim.Native.Nat.{ℕ}
-use lib.ListN.{replicate}
-use Rattle.apportion.specs.Dividing.{divided}
+use lib.ListN.{length, replicate}
+use Rattle.apportion.specs.Dividing.{sharesAfter}
 use Rattle.apportion.specs.Places.{listBelow, sumOf}
 use Rattle.book_words.specs.Book.{bookLength, elements, elementAt}
 use Rattle.book_words.specs.Totals.{Side, operation, provision, shareOf}
@@ -25,9 +25,9 @@ sharesIn ws side = listBelow (elements ws) (λ p. shareOf side (elementAt ws p))
 abbrev pub runFrom : List Call → Run
 runFrom made = runOf (replicate bookLength 0) made
 
--- the shares that are reckoned: those of the dividing rule, or those of the elements after the calls
+-- the shares that are reckoned: those that the dividing rule writes, over sevens, or those of the elements after the calls
 abbrev pub reckoned : Case → Side → List ℕ
-reckoned (division amount weights) side = divided amount weights
+reckoned (division amount weights) side = sharesAfter amount weights (replicate (length weights) 7)
 reckoned (callsMade made) side = sharesIn (runFrom made .book) side
 
 -- what there is to hand out: the pool, or the emissions that the tally counts

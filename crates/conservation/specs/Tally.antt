@@ -63,16 +63,17 @@ changed f (x ∷ xs) zero = x ∷ xs
 changed f (x ∷ xs) (suc zero) = f x ∷ xs
 changed f (x ∷ xs) (suc (suc n)) = x ∷ changed f xs (suc n)
 
--- the kind of the category of this number; 0 where there is none
+-- a category's kind; 0 where there is no such category, which no accepted call names
 abbrev pub kindOf : Option TallyCategory → ℕ
 kindOf none = 0
 kindOf (some c) = c .kind
 
--- the category of this number is there and closed
+-- a category is there and closed
 abbrev pub closedOf : Option TallyCategory → Bool
 closedOf none = false
 closedOf (some c) = c .closed
 
+-- the category of this number is
 unfoldable pub closedIn : Tally → ℕ → Bool
 closedIn t category = closedOf (numbered (t .categories) category)
 
@@ -154,6 +155,7 @@ abbrev pub tallyClose : Tally → ℕ → Tally
 tallyClose t category =
     record { categories = changed markClosed (t .categories) category; entries = t .entries; elements = t .elements }
 
+-- what an accepted call makes of the tally
 abbrev pub tallied : Tally → Call → Tally
 tallied t (Open kind) = tallyOpen t kind
 tallied t (Post category group quantity operationFactor provisionFactor) =

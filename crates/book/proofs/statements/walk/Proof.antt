@@ -65,8 +65,8 @@ add-elements c =
     let s = c .before .before .before .before .before .before .before in
     omega (arith, walked-fits (s .args .book .now) (s .args .chain) (turned c _ refl), sound-counted (s .args .book .now) (s .pre))
 
-waits-requires : tie.Need-waits-requires Inv-loop μ-loop
-waits-requires c κs =
+waiting-of-requires : tie.Need-waiting-of-requires Inv-loop μ-loop
+waiting-of-requires c κs =
     let a = c .before .before .before .before in
     let s = a .before .before .before in
     (s .pre, omega (arith, ap (λ (r : Element). r .category) (read (c .before .before)), category-inside (s .args .book .now) (s .pre) (a .loop .passed) (c .before .before .before .loop-test .taken)))
@@ -74,7 +74,7 @@ waits-requires c κs =
 add-waiting : tie.Need-add-waiting Inv-loop μ-loop
 add-waiting c =
     let s = c .before .before .before .before .before .before .before .before in
-    omega (arith, walked-fits (s .args .book .now) (s .args .chain) (turned (c .before) _ (c .waits .ensures)), sound-counted (s .args .book .now) (s .pre))
+    omega (arith, walked-fits (s .args .book .now) (s .args .chain) (turned (c .before) _ (c .waiting-of .ensures)), sound-counted (s .args .book .now) (s .pre))
 
 add-operation : tie.Need-add-operation Inv-loop μ-loop
 add-operation c =
@@ -90,7 +90,7 @@ loop-less-2 : tie.Need-loop-less-2 Inv-loop μ-loop
 loop-less-2 c = omega arith
 
 loop-again-2 : tie.Need-loop-again-2 Inv-loop μ-loop
-loop-again-2 c = turned (c .before .before .before) _ (c .before .before .waits .ensures)
+loop-again-2 c = turned (c .before .before .before) _ (c .before .before .waiting-of .ensures)
 
 add-t11 : tie.Need-add-t11 Inv-loop μ-loop
 add-t11 c =
@@ -115,7 +115,7 @@ walk-spec =
     loop-less
     loop-again
     add-elements
-    waits-requires
+    waiting-of-requires
     add-waiting
     add-operation
     add-provision

@@ -1,9 +1,9 @@
--- `book::statements::waits` meets its contract: the category that was read is the element's. Assumes nothing.
+-- `book::statements::waiting_of` meets its contract: the category that was read is the element's. Assumes nothing.
 use mathlib.Core.Bool.{true, false}
 use borrow.Author.Needs.{needs}
 use Rattle.book.proofs.Walking.{waits-told}
-use Rattle.book.proofs.statements.waits.Statement.{statement}
-use Rattle.book.proofs.statements.waits.Tie as tie
+use Rattle.book.proofs.statements.waiting_of.Statement.{statement}
+use Rattle.book.proofs.statements.waiting_of.Tie as tie
 
 category-of-requires : tie.Need-category-of-requires
 category-of-requires c κs = search needs
@@ -18,5 +18,5 @@ returns-2 c =
     let s = c .before .before .before .before .before in
     waits-told (s .args .book .now) (s .args .e) _ (c .before .before .before .category-of .ensures) (s .pre .1) false (c .if1 .left)
 
-pub waits-spec : {M : Type 1} → statement M
-waits-spec = tie.close (tie.spec category-of-requires returns returns-2)
+pub waiting-of-spec : {M : Type 1} → statement M
+waiting-of-spec = tie.close (tie.spec category-of-requires returns returns-2)
