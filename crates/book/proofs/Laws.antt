@@ -22,7 +22,7 @@ use Rattle.book_words.specs.Totals.{allUnstruck, sharesOf, activities, operatio
 use Rattle.book_words.specs.declared.records.Element.{Element}
 use Rattle.book_words.specs.declared.records.Entry.{Entry}
 use Rattle.book.specs.Calls.{cleared, freshRefusal, freshBook, openRefusal, openBook, postRefusal, postBook, postedEntry, strikeRefusal, strikeBook, enrolRefusal, enrolBook, enrolledElement, quoteRefusal, quoteBook, quotedElement}
-use Rattle.book.specs.Statements.{ofChain, waits, elementsOn, waitingOn, sharesOn, refusedStatement, statementOf, statementRefusal, statementReply}
+use Rattle.book.specs.Statements.{ofChain, waits, elementsOn, waitingOn, sharesOn, zerosBeside, statementOf, statementRefusal, statementReply}
 use Rattle.apportion.proofs.Grounds.{refused-old}
 use Rattle.apportion.proofs.Sums.{sum-zero}
 use Rattle.apportion.proofs.Lists.{filled, filled-length, list-length, list-at}
@@ -263,13 +263,13 @@ module _ (ws : List ℕ) where
         within ok operation = ok .operation-within
         within ok provision = ok .provision-within
 
-  -- statement: an accepted one is made by all elements of the book, a refused one is zeros
+  -- statement: what an accepted one answers, and where it is zeros
   module _ (chain : ℕ) where
-    pub statement-unsound : sound ws ≡ false → statementReply ws chain ≡ refusedStatement 1
+    pub statement-unsound : sound ws ≡ false → statementReply ws chain ≡ zerosBeside 1
     unfolding statementReply statementRefusal
     statement-unsound unsound = rw unsound
 
-    pub statement-unknown : sound ws ≡ true → isChain chain ≡ false → statementReply ws chain ≡ refusedStatement 3
+    pub statement-unknown : sound ws ≡ true → isChain chain ≡ false → statementReply ws chain ≡ zerosBeside 3
     unfolding statementReply statementRefusal
     statement-unknown fine unknown = rw (fine, unknown)
 
@@ -278,7 +278,7 @@ module _ (ws : List ℕ) where
     statement-accepted fine known = rw (fine, known)
 
     -- "zeros for an unused chain"
-    pub statement-unused : sound ws ≡ true → isChain chain ≡ true → ((p : ℕ) → p < elements ws → elementAt ws p .chain ≡ chain → ⊥) → statementReply ws chain ≡ refusedStatement 0
+    pub statement-unused : sound ws ≡ true → isChain chain ≡ true → ((p : ℕ) → p < elements ws → elementAt ws p .chain ≡ chain → ⊥) → statementReply ws chain ≡ zerosBeside 0
     unfolding statementOf elementsOn waitingOn sharesOn
     statement-unused fine known unused =
         let none : (p : ℕ) → p < elements ws → ofChain chain (elementAt ws p) ≡ false = λ p h. ne-eqb (elementAt ws p .chain) chain (unused p h) in

@@ -53,11 +53,11 @@ statementOf ws chain =
       total = sharesOn ws chain operation + sharesOn ws chain provision;
     }
 
--- "A refusal returns its number with zeros"
-abbrev pub refusedStatement : ℕ → Statement
-refusedStatement refusal =
+-- zeros beside this refusal number; "A refusal returns its number with zeros"
+abbrev pub zerosBeside : ℕ → Statement
+zerosBeside refusal =
     record { refusal = refusal; elements = 0; waiting = 0; operation = 0; provision = 0; total = 0 }
 
 unfoldable pub statementReply : List ℕ → ℕ → Statement
 statementReply ws chain =
-    accepted (statementRefusal ws chain) (statementOf ws chain) (refusedStatement (statementRefusal ws chain))
+    accepted (statementRefusal ws chain) (statementOf ws chain) (zerosBeside (statementRefusal ws chain))

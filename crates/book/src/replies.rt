@@ -1,6 +1,6 @@
 // What calls answer.
 ghost use mathlib.Core.Path.{_≡_};
-ghost use Rattle.book.specs.Statements.{refusedStatement};
+ghost use Rattle.book.specs.Statements.{zerosBeside};
 
 // What a call that returns a record's number answers.
 pub struct Reply {
@@ -32,7 +32,7 @@ pub struct Statement {
 
 // A refused statement: its number with zeros.
 pub fn no_statement(refusal: u64) -> Statement
-    ensures { λ r. ⌜ r ≡ refusedStatement refusal ⌝ }
+    ensures { λ r. ⌜ r ≡ zerosBeside refusal ⌝ }
 {
     Statement {
         refusal,

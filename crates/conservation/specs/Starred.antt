@@ -18,8 +18,8 @@ pub data Case : Type 0 where
   callsMade : List Call → Case
 
 -- the shares of all elements of a book
-abbrev pub sharesIn : List ℕ → Side → List ℕ
-sharesIn ws side = listBelow (elements ws) (λ p. shareOf side (elementAt ws p))
+abbrev pub allShares : List ℕ → Side → List ℕ
+allShares ws side = listBelow (elements ws) (λ p. shareOf side (elementAt ws p))
 
 -- the calls, on a slice of zeros that is as long as a book
 abbrev pub runFrom : List Call → Run
@@ -28,7 +28,7 @@ runFrom made = runOf (replicate bookLength 0) made
 -- the shares that are reckoned: those that the dividing rule writes, over sevens, or those of the elements after the calls
 abbrev pub reckoned : Case → Side → List ℕ
 reckoned (division amount weights) side = sharesAfter amount weights (replicate (length weights) 7)
-reckoned (callsMade made) side = sharesIn (runFrom made .book) side
+reckoned (callsMade made) side = allShares (runFrom made .book) side
 
 -- what there is to hand out: the pool, or the emissions that the tally counts
 abbrev pub toHandOut : Case → Side → ℕ

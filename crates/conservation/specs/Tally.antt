@@ -68,12 +68,12 @@ abbrev pub kindOf : Option TallyCategory → ℕ
 kindOf none = 0
 kindOf (some c) = c .kind
 
--- a category is there and closed
+-- there is such a category, and it is closed
 abbrev pub closedOf : Option TallyCategory → Bool
 closedOf none = false
 closedOf (some c) = c .closed
 
--- the category of this number is
+-- the category of this number is there and closed
 unfoldable pub closedIn : Tally → ℕ → Bool
 closedIn t category = closedOf (numbered (t .categories) category)
 
@@ -118,6 +118,7 @@ abbrev pub tallyStrike : Tally → ℕ → Tally
 tallyStrike t entry =
     record { categories = t .categories; entries = changed markStruck (t .entries) entry; elements = t .elements }
 
+-- an element is added behind the others
 abbrev pub withElement : Tally → TallyElement → Tally
 withElement t e = record { categories = t .categories; entries = t .entries; elements = t .elements ++ (e ∷ []) }
 
