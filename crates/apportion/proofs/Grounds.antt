@@ -39,3 +39,8 @@ accepted-new n new old e = rw e
 pub refused-old : {A : Type 0} (n : ℕ) (new old : A) → (n ≡ 0 → ⊥) → accepted n new old ≡ old
 refused-old zero new old ne = absurd (ne refl)
 refused-old (suc n) new old ne = refl
+
+-- what holds before a call, and after it where it is accepted, holds after it: a refused one leaves all as it was
+pub either : {A : Type 0} (P : A → Type 0) (n : ℕ) (new old : A) → ((n ≡ 0 → ⊥) → new ≡ old) → (n ≡ 0 → P new) → P old → P new
+either P zero new old same made before = made refl
+either P (suc n) new old same made before = rw (same (λ e. omega arith)) before

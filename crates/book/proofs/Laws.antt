@@ -1,13 +1,12 @@
--- The laws of the calls for the crates above; those of close are proved in `book_shares` and handed on. Of each call:
+-- The laws of the calls for the crates above; those of close are proved in `book_shares` and handed on. Of each call that writes:
 -- what an accepted one changes, and that it keeps all else (`Fresh`; `CategoryAdded`, `EntryAdded`, `EntryStruck`, `ElementAdded` of
 -- `Views`; `CategoryClosed` of `Closed`); that a refused one leaves the list as it was; that either leaves a sound book sound.
 -- Assumes nothing.
 use mathlib.Core.Bool.{true, false, cond, _&&_}
 use mathlib.Core.List.{List}
-use mathlib.Core.Logic.{⊎-elim}
-use mathlib.Core.Path.{_≡_, _∙_, ap, refl, sym}
+use mathlib.Core.Path.{_≡_, _∙_, refl, sym}
 use Prim.Native.Nat.{ℕ, _-_, _<_, _≤_, _+_}
-use native.Mathlib.Nat.{eq-zero-or-pos, add-zero}
+use native.Mathlib.Nat.{add-zero}
 use native.Mathlib.Omega.{arith}
 use lib.Dec.{eqb}
 use lib.ListN.{length, length-set, List·getD-append, drop}
@@ -23,7 +22,7 @@ use Rattle.book_words.specs.declared.records.Element.{Element}
 use Rattle.book_words.specs.declared.records.Entry.{Entry}
 use Rattle.book.specs.Calls.{cleared, freshRefusal, freshBook, openRefusal, openBook, postRefusal, postBook, postedEntry, strikeRefusal, strikeBook, enrolRefusal, enrolBook, enrolledElement, quoteRefusal, quoteBook, quotedElement}
 use Rattle.book.specs.Statements.{ofChain, waits, elementsOn, waitingOn, sharesOn, zerosBeside, statementOf, statementRefusal, statementReply}
-use Rattle.apportion.proofs.Grounds.{refused-old}
+use Rattle.apportion.proofs.Grounds.{refused-old, either}
 use Rattle.apportion.proofs.Sums.{sum-zero}
 use Rattle.apportion.proofs.Lists.{filled, filled-length, list-length, list-at}
 use Rattle.book_words.proofs.Booleans.{and-both, cond-same}
@@ -36,6 +35,10 @@ use Rattle.book_words.proofs.Writes.{filled-past}
 use Rattle.book.proofs.Accepting.{struck, opened, posted, unclosed-zero, Posted, enrolled, Enrolled, quoted, Quoted}
 use Rattle.book.proofs.Keeping.{open-keeps, post-keeps, strike-keeps, element-keeps}
 pub use Rattle.book_shares.proofs.Laws.{close-refused, close-closed, shares-handed, share-near-exact, close-sound}
+
+-- a sound book
+abbrev Sound : List ℕ → Type 0
+Sound ws = sound ws ≡ true
 
 module _ (ws : List ℕ) where
   -- fresh
@@ -108,13 +111,12 @@ module _ (ws : List ℕ) where
     pub open-sound : sound ws ≡ true → sound (openBook ws kind) ≡ true
     unfolding categoryFine
     open-sound fine =
-        ⊎-elim
-        (λ (e : openRefusal ws kind ≡ 0).
+        either Sound (openRefusal ws kind) (openBook ws kind) ws open-refused
+        (λ e.
         let ok = opened ws kind e in
         whole-sound (openBook ws kind)
         (open-keeps ws (openBook ws kind) (record { kind = kind; closed = 0 }) (sound-whole ws fine) (open-added e) (ok .room) (and-both (isKind kind) true (ok .known) refl) refl))
-        (λ (some : 0 < openRefusal ws kind). ap sound (open-refused (λ e. omega arith)) ∙ fine)
-        (eq-zero-or-pos (openRefusal ws kind))
+        fine
 
   -- post
   module _ (category group quantity operationFactor provisionFactor : ℕ) where
@@ -139,13 +141,12 @@ module _ (ws : List ℕ) where
 
     pub post-sound : sound ws ≡ true → sound post-book ≡ true
     post-sound fine =
-        ⊎-elim
-        (λ (e : post-refusal ≡ 0).
+        either Sound post-refusal post-book ws post-refused
+        (λ e.
         let ok = posted ws category group quantity operationFactor provisionFactor e in
         whole-sound post-book
         (post-keeps ws post-book post-entry (sound-whole ws fine) (post-added e) (ok .room) (posted-fine ok) (unclosed-zero ws category (ok .unclosed)) (within ok)))
-        (λ (some : 0 < post-refusal). ap sound (post-refused (λ e. omega arith)) ∙ fine)
-        (eq-zero-or-pos post-refusal)
+        fine
       where
         within : Posted ws category group quantity operationFactor provisionFactor → (s : Side) → emitted ws s + unstruck s post-entry ≤ largest
         within ok operation = ok .operation-within
@@ -171,15 +172,14 @@ module _ (ws : List ℕ) where
 
     pub strike-sound : sound ws ≡ true → sound (strikeBook ws entry) ≡ true
     strike-sound fine =
-        ⊎-elim
-        (λ (e : strikeRefusal ws entry ≡ 0).
+        either Sound (strikeRefusal ws entry) (strikeBook ws entry) ws strike-refused
+        (λ e.
         let ok = struck ws entry e in
         whole-sound (strikeBook ws entry)
         (strike-keeps ws (strikeBook ws entry) (entry - 1) (sound-whole ws fine) (strike-struck e)
         (omega (arith, between-low 1 (entries ws) entry (ok .numbered), between-high 1 (entries ws) entry (ok .numbered)))
         (unclosed-zero ws (entryAt ws (entry - 1) .category) (ok .unclosed))))
-        (λ (some : 0 < strikeRefusal ws entry). ap sound (strike-refused (λ e. omega arith)) ∙ fine)
-        (eq-zero-or-pos (strikeRefusal ws entry))
+        fine
 
   -- enrol
   module _ (category chain code amount distance : ℕ) where
@@ -204,15 +204,14 @@ module _ (ws : List ℕ) where
 
     pub enrol-sound : sound ws ≡ true → sound enrol-book ≡ true
     enrol-sound fine =
-        ⊎-elim
-        (λ (e : enrol-refusal ≡ 0).
+        either Sound enrol-refusal enrol-book ws enrol-refused
+        (λ e.
         let ok = enrolled ws category chain code amount distance e in
         let whole = sound-whole ws fine in
         whole-sound enrol-book
         (element-keeps ws enrol-book enrol-element whole (enrol-added e) (ok .room) (enrolled-fine ok)
         (λ s. rw (nothing 0 s, add-zero) (whole .limited s)) (ok .within) (λ p s. nothing (p + 1) s)))
-        (λ (some : 0 < enrol-refusal). ap sound (enrol-refused (λ e. omega arith)) ∙ fine)
-        (eq-zero-or-pos enrol-refusal)
+        fine
       where
         share : (s : Side) → shareOf s enrol-element ≡ 0
         share operation = refl
@@ -249,15 +248,14 @@ module _ (ws : List ℕ) where
 
     pub quote-sound : sound ws ≡ true → sound quote-book ≡ true
     quote-sound fine =
-        ⊎-elim
-        (λ (e : quote-refusal ≡ 0).
+        either Sound quote-refusal quote-book ws quote-refused
+        (λ e.
         let ok = quoted ws chain adjust mass distance operationIntensity provisionIntensity e in
         whole-sound quote-book
         (element-keeps ws quote-book quote-element (sound-whole ws fine) (quote-added e) (ok .room)
         (sym (element-quoted ws quote-element refl) ∙ quoted-suits quote-element (ok .known-chain) (ok .amount-fine) (ok .distance-fine) refl refl)
         (within ok) (ok .within) (λ p s. rw (ne-eqb 0 (p + 1) (λ z. omega arith)))))
-        (λ (some : 0 < quote-refusal). ap sound (quote-refused (λ e. omega arith)) ∙ fine)
-        (eq-zero-or-pos quote-refusal)
+        fine
       where
         within : Quoted ws chain adjust mass distance operationIntensity provisionIntensity → (s : Side) → emitted ws s + shareOf s quote-element ≤ largest
         within ok operation = ok .operation-within

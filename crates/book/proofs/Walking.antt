@@ -1,6 +1,6 @@
 -- What the walk of a statement holds after the first n elements: the counts and sums over the chain's elements among them.
 -- Assumes nothing.
-use mathlib.Core.Bool.{cond, _&&_, Bool, true, false, not}
+use mathlib.Core.Bool.{true, cond, _&&_, Bool, not, Bool·not-not}
 use mathlib.Core.List.{List}
 use mathlib.Core.Logic.{⊎-elim}
 use mathlib.Core.Path.{_≡_, refl, _∙_, ap, sym}
@@ -32,12 +32,8 @@ waits-told ws e r is inside t h =
     (λ (none : e .category ≡ 0). rw (← h, eq-eqb (e .category) 0 none))
     (λ (some : 0 < e .category).
     let there = category-there ws (e .category) r is (and-both (leb 1 (e .category)) (leb (e .category) (categories ws)) (le-leb 1 (e .category) some) (le-leb (e .category) (categories ws) inside)) in
-    rw (← h, ap (λ (x : Category). x .closed) there) (ap (λ (b : Bool). oneIf (not (eqb (e .category) 0) && b)) (sym (not-not (eqb (categoryOf ws (e .category) .closed) 0)))))
+    rw (← h, ap (λ (x : Category). x .closed) there) (ap (λ (b : Bool). oneIf (not (eqb (e .category) 0) && b)) (sym (Bool·not-not (eqb (categoryOf ws (e .category) .closed) 0)))))
     (eq-zero-or-pos (e .category))
-  where
-    not-not : (b : Bool) → not (not b) ≡ b
-    not-not true = refl
-    not-not false = refl
 
 -- the share of the element at a place, where it is of the chain
 abbrev ownShare : List ℕ → ℕ → Side → ℕ → ℕ
@@ -116,6 +112,7 @@ module _ (ws : List ℕ) (chain : ℕ) where
     omega (arith, w .all-waiting, count-most n (λ p. ofChain chain (elementAt ws p) && waits ws (elementAt ws p))),
   )
 
+  -- after all elements it is the statement
   pub walked-done : {n counted waiting byOperation byProvision : ℕ} → Walked ws chain n counted waiting byOperation byProvision → elements ws ≤ n
       → _≡_ {A = Statement} (record { refusal = 0; elements = counted; waiting = waiting; operation = byOperation; provision = byProvision; total = byOperation + byProvision }) (statementOf ws chain)
   unfolding statementOf elementsOn waitingOn sharesOn

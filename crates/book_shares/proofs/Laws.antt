@@ -4,8 +4,6 @@ use mathlib.Core.List.{List}
 use mathlib.Core.Logic.{⊎-elim}
 use mathlib.Core.Path.{_≡_, _∙_, sym, ap}
 use Prim.Native.Nat.{ℕ, _≤_, _<_}
-use native.Mathlib.Nat.{eq-zero-or-pos}
-use native.Mathlib.Omega.{arith}
 use lib.Dec.{eqb}
 use borrow.Author.Tests.{eq-eqb, ne-eqb}
 use Rattle.apportion.specs.Nearness.{Within}
@@ -16,7 +14,7 @@ use Rattle.book_words.specs.Totals.{Side, unstruckOf, sharesOf, shareOf, operat
 use Rattle.book_words.specs.declared.records.Element.{Element}
 use Rattle.book_shares.specs.Closing.{closeRefusal, closeBook}
 use Rattle.book_shares.specs.Shares.{closingShare, exactOf}
-use Rattle.apportion.proofs.Grounds.{refused-old}
+use Rattle.apportion.proofs.Grounds.{refused-old, either}
 use Rattle.apportion.proofs.Sums.{sum-cong}
 use Rattle.book_words.proofs.Facts.{sound-counted}
 use Rattle.book_words.proofs.Kept.{same-or-not}
@@ -85,10 +83,9 @@ module _ (ws : List ℕ) (category : ℕ) where
   -- A closing, accepted or refused, leaves a sound book sound.
   pub close-sound : sound ws ≡ true → sound (closeBook ws category) ≡ true
   close-sound fine =
-      ⊎-elim
-      (λ (e : closeRefusal ws category ≡ 0).
+      either (λ x. sound x ≡ true) (closeRefusal ws category) (closeBook ws category) ws close-refused
+      (λ e.
       let k = numbers (closable ws category e) in
       whole-sound (closeBook ws category)
       (close-keeps ws (closeBook ws category) category (closingShare ws category) (sound-whole ws fine) (close-closed e) (k .0) (k .1) (balance e)))
-      (λ (some : 0 < closeRefusal ws category). ap sound (close-refused (λ z. omega arith)) ∙ fine)
-      (eq-zero-or-pos (closeRefusal ws category))
+      fine

@@ -7,17 +7,17 @@ use Prim.Native.Nat.{ℕ, _<_, _≤_, _*_}
 use native.Mathlib.Nat.{eq-zero-or-pos, mul-le-mul, mul-le-mul-left}
 use native.Mathlib.Omega.{arith}
 use lib.Dec.{eqb, leb}
-use borrow.Author.Tests.{not-true, eqb-true, leb-true}
+use borrow.Author.Tests.{eqb-true, leb-true}
 use Rattle.apportion.specs.Dividing.{largest}
 use Rattle.book_words.specs.Book.{categoryOf}
-use Rattle.book_words.specs.Measures.{isCode, unsuited, isChain, isAmount, isDistance, activityOf, isFreight, between, isPassenger, isHub, massActivity, isGroup, unsuitedGroup, byMass}
-use Rattle.book_words.specs.Soundness.{measured, elementSuits, sharesWait, quotedSuits, elementFine, entryFine, entrySuits}
+use Rattle.book_words.specs.Measures.{isCode, unsuited, isAmount, isDistance, activityOf, isFreight, between, isPassenger, isHub, massActivity, isGroup, unsuitedGroup, byMass}
+use Rattle.book_words.specs.Soundness.{measured, elementSuits, quotedSuits, elementFine, entryFine, entrySuits}
 use Rattle.book_words.specs.declared.records.Category.{Category}
 use Rattle.book_words.specs.declared.records.Element.{Element}
 use Rattle.book_words.specs.declared.records.Entry.{Entry}
 use Rattle.book_words.proofs.Booleans.{both, cond-false}
 use Rattle.book_words.proofs.Ranges.{between-low, between-high}
-use Rattle.book_words.proofs.Rules.{element-quoted, element-numbered, element-inside, entry-numbered, entry-inside}
+use Rattle.book_words.proofs.Rules.{element-quoted, element-numbered, element-inside, entry-numbered, entry-inside, suits-parts, quoted-parts}
 
 -- an element that suits a kind and is measured by it
 pub record Measured (r : Element) : Type 0 where
@@ -27,32 +27,14 @@ pub record Measured (r : Element) : Type 0 where
   pub fine : measured kind r ≡ true
 
 suits-measured : (k : Category) (r : Element) → elementSuits k r ≡ true → Measured r
-unfolding elementSuits
 suits-measured k r e =
-    let chain = isChain (r .chain) in
-    let code = isCode (r .code) in
-    let suits = not (unsuited (k .kind) (r .code)) in
-    let a = both (chain && code && suits && measured (k .kind) r) (sharesWait k r) e in
-    let b = both (chain && code && suits) (measured (k .kind) r) (a .0) in
-    let d = both (chain && code) suits (b .0) in
-    record {
-      kind = k .kind;
-      known = both chain code (d .0) .1;
-      suited = not-true (unsuited (k .kind) (r .code)) (d .1);
-      fine = b .1;
-    }
+    let s = suits-parts k r e in
+    record { kind = k .kind; known = s .known-code; suited = s .suited; fine = s .well-measured }
 
 quoted-measured : (r : Element) → quotedSuits r ≡ true → Measured r
-unfolding quotedSuits
 quoted-measured r e =
-    let a = both (isChain (r .chain) && eqb (r .code) 0) (measured 1 r) e in
-    let code : r .code ≡ 0 = eqb-true (r .code) 0 (both (isChain (r .chain)) (eqb (r .code) 0) (a .0) .1) in
-    record {
-      kind = 1;
-      known = rw code;
-      suited = rw code;
-      fine = a .1;
-    }
+    let s = quoted-parts r e in
+    record { kind = 1; known = rw (s .ambient); suited = rw (s .ambient); fine = s .well-measured }
 
 pub fine-measured : (ws : List ℕ) (r : Element) → elementFine ws r ≡ true → Measured r
 fine-measured ws r e =

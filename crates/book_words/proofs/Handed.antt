@@ -1,5 +1,5 @@
 -- What is handed out in a sound book: its shares by categories and by chains. Assumes nothing.
-use mathlib.Core.Bool.{Bool, true, false, _&&_, not, cond}
+use mathlib.Core.Bool.{Bool, true, false, _&&_, cond}
 use mathlib.Core.List.{List}
 use mathlib.Core.Logic.{⊎-elim}
 use mathlib.Core.Path.{_≡_, refl, sym, _∙_, ap}
@@ -11,32 +11,16 @@ use borrow.Author.Tests.{eqb-true, eqb-false, not-true, not-false}
 use Rattle.apportion.specs.Dividing.{largest}
 use Rattle.apportion.specs.Places.{sumBelow}
 use Rattle.book_words.specs.Book.{categories, categoryAt, categoryOf, entries, entryAt, elements, elementAt, isClosed}
-use Rattle.book_words.specs.Measures.{isChain, isCode, unsuited}
-use Rattle.book_words.specs.Soundness.{sound, elementSuits, quotedSuits, measured, sharesWait}
+use Rattle.book_words.specs.Measures.{isChain, mostChains}
+use Rattle.book_words.specs.Soundness.{sound, elementSuits}
 use Rattle.book_words.specs.Totals.{Side, operation, provision, shareOf, unstruck, sharesOf, unstruckOf, allUnstruck}
-use Rattle.book_words.specs.declared.records.Category.{Category}
 use Rattle.book_words.specs.declared.records.Element.{Element}
 use Rattle.apportion.proofs.Sums.{sum-cong, sum-le, sum-zero}
 use Rattle.book_words.proofs.Booleans.{both, cond-most}
 use Rattle.book_words.proofs.Ranges.{between-low, between-high}
-use Rattle.book_words.proofs.Rules.{entry-inside, element-inside, element-quoted, element-numbered}
+use Rattle.book_words.proofs.Rules.{entry-inside, element-inside, element-quoted, element-numbered, suits-parts, quoted-parts}
 use Rattle.book_words.proofs.Wholes.{Whole, sound-whole}
 use Rattle.book_words.proofs.Keys.{sum-first, sum-by-key}
-
--- the chain of a quoted element that keeps its rules
-quoted-chain : (r : Element) → quotedSuits r ≡ true → isChain (r .chain) ≡ true
-unfolding quotedSuits
-quoted-chain r e =
-    both (isChain (r .chain)) (eqb (r .code) 0) (both (isChain (r .chain) && eqb (r .code) 0) (measured 1 r) e .0) .0
-
--- the chain of an enrolled element that keeps its rules, and that its shares wait
-enrolled-parts : (k : Category) (r : Element) → elementSuits k r ≡ true → (isChain (r .chain) ≡ true) × (sharesWait k r ≡ true)
-unfolding elementSuits
-enrolled-parts k r e =
-    let a = both (isChain (r .chain) && isCode (r .code) && not (unsuited (k .kind) (r .code)) && measured (k .kind) r) (sharesWait k r) e in
-    let b = both (isChain (r .chain) && isCode (r .code) && not (unsuited (k .kind) (r .code))) (measured (k .kind) r) (a .0) in
-    let c = both (isChain (r .chain) && isCode (r .code)) (not (unsuited (k .kind) (r .code))) (b .0) in
-    (both (isChain (r .chain)) (isCode (r .code)) (c .0) .0, a .1)
 
 -- shares that wait are 0
 waiting-none : (t : Bool) (r : Element) → t ≡ true → cond t (eqb (r .operation) 0 && eqb (r .provision) 0) true ≡ true → (side : Side) → shareOf side r ≡ 0
@@ -94,18 +78,18 @@ module _ (ws : List ℕ) (fine : sound ws ≡ true) where
   pub open-shares : (p : ℕ) → p < elements ws → (elementAt ws p .category ≡ 0 → ⊥) → isClosed ws (elementAt ws p .category) ≡ false → (side : Side) → shareOf side (elementAt ws p) ≡ 0
   open-shares p h enrolled unclosed =
       let k = categoryOf ws (elementAt ws p .category) in
-      waiting-none (eqb (k .closed) 0) (elementAt ws p) (not-false (eqb (k .closed) 0) unclosed) (enrolled-parts k (elementAt ws p) (element-suited p h enrolled) .1)
+      waiting-none (eqb (k .closed) 0) (elementAt ws p) (not-false (eqb (k .closed) 0) unclosed) (suits-parts k (elementAt ws p) (element-suited p h enrolled) .shares-wait)
 
   -- an element's chain is from 1 to 10,000
-  chain-inside : (p : ℕ) → p < elements ws → (1 ≤ elementAt ws p .chain) × (elementAt ws p .chain ≤ 10_000)
+  chain-inside : (p : ℕ) → p < elements ws → (1 ≤ elementAt ws p .chain) × (elementAt ws p .chain ≤ mostChains)
   chain-inside p h =
       let inside : isChain (elementAt ws p .chain) ≡ true =
       ⊎-elim
-      (λ (none : elementAt ws p .category ≡ 0). quoted-chain (elementAt ws p) (element-quoted ws (elementAt ws p) none ∙ whole .each-element p h))
+      (λ (none : elementAt ws p .category ≡ 0). quoted-parts (elementAt ws p) (element-quoted ws (elementAt ws p) none ∙ whole .each-element p h) .known-chain)
       (λ (some : 0 < elementAt ws p .category).
-      enrolled-parts (categoryOf ws (elementAt ws p .category)) (elementAt ws p) (element-suited p h (λ z. omega arith)) .0)
+      suits-parts (categoryOf ws (elementAt ws p .category)) (elementAt ws p) (element-suited p h (λ z. omega arith)) .known-chain)
       (eq-zero-or-pos (elementAt ws p .category)) in
-      (between-low 1 10_000 (elementAt ws p .chain) inside, between-high 1 10_000 (elementAt ws p .chain) inside)
+      (between-low 1 mostChains (elementAt ws p .chain) inside, between-high 1 mostChains (elementAt ws p .chain) inside)
 
   -- what an entry adds where its category is closed
   abbrev closedUnstruck : Side → ℕ → ℕ
@@ -176,7 +160,7 @@ module _ (ws : List ℕ) (fine : sound ws ≡ true) where
       )
 
   -- the shares by chains, from 1 to 10,000, are all shares
-  pub shares-by-chain : (side : Side) → sumBelow 10_000 (λ j. sumBelow (elements ws) (λ p. cond (eqb (elementAt ws p .chain) (j + 1)) (shareOf side (elementAt ws p)) 0)) ≡ sumBelow (elements ws) (λ p. shareOf side (elementAt ws p))
+  pub shares-by-chain : (side : Side) → sumBelow mostChains (λ j. sumBelow (elements ws) (λ p. cond (eqb (elementAt ws p .chain) (j + 1)) (shareOf side (elementAt ws p)) 0)) ≡ sumBelow (elements ws) (λ p. shareOf side (elementAt ws p))
   shares-by-chain side =
-      sum-by-key 1 10_000 (elements ws) (λ p. elementAt ws p .chain) (λ p. shareOf side (elementAt ws p))
+      sum-by-key 1 mostChains (elements ws) (λ p. elementAt ws p .chain) (λ p. shareOf side (elementAt ws p))
       (λ p h. (chain-inside p h .0, omega (arith, chain-inside p h .1)))

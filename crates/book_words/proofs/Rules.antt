@@ -5,7 +5,7 @@ use mathlib.Core.Path.{_≡_, sym, _∙_, ap}
 use Prim.Native.Nat.{ℕ, _<_, _≤_, _+_, _*_}
 use native.Mathlib.Omega.{arith}
 use lib.Dec.{eqb, leb}
-use borrow.Author.Tests.{not-true, eq-eqb, ne-eqb, lt-leb, le-leb, leb-true}
+use borrow.Author.Tests.{not-true, eqb-true, eq-eqb, ne-eqb, lt-leb, le-leb, leb-true}
 use Rattle.apportion.specs.Dividing.{largest}
 use Rattle.book_words.specs.declared.records.Category.{Category}
 use Rattle.book_words.specs.declared.records.Element.{Element}
@@ -124,3 +124,42 @@ quoted-suits r chain a d code e =
     and-both (isChain (r .chain) && eqb (r .code) 0) (measured 1 r)
     (and-both (isChain (r .chain)) (eqb (r .code) 0) chain (eq-eqb (r .code) 0 code))
     (measures-fine 1 r (ap (λ (n : ℕ). isAmount n (r .amount)) code ∙ a) d (rw code e))
+
+-- the rules of an element of this category, one by one
+pub record Suited (k : Category) (r : Element) : Type 0 where
+  pub known-chain : isChain (r .chain) ≡ true
+  pub known-code : isCode (r .code) ≡ true
+  pub suited : unsuited (k .kind) (r .code) ≡ false
+  pub well-measured : measured (k .kind) r ≡ true
+  pub shares-wait : sharesWait k r ≡ true
+
+pub suits-parts : (k : Category) (r : Element) → elementSuits k r ≡ true → Suited k r
+unfolding elementSuits
+suits-parts k r e =
+    let chain = isChain (r .chain) in
+    let code = isCode (r .code) in
+    let suits = not (unsuited (k .kind) (r .code)) in
+    let a = both (chain && code && suits && measured (k .kind) r) (sharesWait k r) e in
+    let b = both (chain && code && suits) (measured (k .kind) r) (a .0) in
+    let c = both (chain && code) suits (b .0) in
+    let d = both chain code (c .0) in
+    record {
+      known-chain = d .0;
+      known-code = d .1;
+      suited = not-true (unsuited (k .kind) (r .code)) (c .1);
+      well-measured = b .1;
+      shares-wait = a .1;
+    }
+
+-- those of a quoted element
+pub record QuoteSuited (r : Element) : Type 0 where
+  pub known-chain : isChain (r .chain) ≡ true
+  pub ambient : r .code ≡ 0
+  pub well-measured : measured 1 r ≡ true
+
+pub quoted-parts : (r : Element) → quotedSuits r ≡ true → QuoteSuited r
+unfolding quotedSuits
+quoted-parts r e =
+    let a = both (isChain (r .chain) && eqb (r .code) 0) (measured 1 r) e in
+    let b = both (isChain (r .chain)) (eqb (r .code) 0) (a .0) in
+    record { known-chain = b .0; ambient = eqb-true (r .code) 0 (b .1); well-measured = a .1 }

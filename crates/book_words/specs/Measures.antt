@@ -20,8 +20,11 @@ abbrev pub isGroup : ℕ → Bool
 isGroup group = leb group 2
 
 -- "chain (1 to 10,000)"
+abbrev pub mostChains : ℕ
+mostChains = 10_000
+
 abbrev pub isChain : ℕ → Bool
-isChain chain = between 1 10_000 chain
+isChain chain = between 1 mostChains chain
 
 -- "Code 0, 1, 2 is freight, ambient, chilled or frozen, and amount its mass."
 abbrev pub isFreight : ℕ → Bool

@@ -1,30 +1,29 @@
 -- Demand 3, for every list of calls. Assumes nothing.
 use mathlib.Core.Bool.{Bool, true, false, cond, _&&_}
 use mathlib.Core.List.{List, [], _∷_}
-use mathlib.Core.Logic.{⊎-elim}
 use mathlib.Core.Option.{some}
 use mathlib.Core.Path.{_≡_, refl, sym, ap, _∙_}
 use Prim.Native.Nat.{ℕ, _+_, _-_, _≤_, _<_}
-use native.Mathlib.Nat.{eq-zero-or-pos}
 use native.Mathlib.Omega.{arith}
 use lib.Dec.{eqb, leb}
 use borrow.Author.Tests.{le-leb}
 use Rattle.apportion.specs.Places.{oneIf, sumBelow}
 use Rattle.book_words.specs.Book.{elements, elementAt, isClosed}
-use Rattle.book_words.specs.Measures.{isChain}
+use Rattle.book_words.specs.Measures.{isChain, mostChains}
 use Rattle.book_words.specs.Soundness.{sound}
 use Rattle.book_words.specs.Totals.{Side, operation, provision, shareOf, sharesOf}
 use Rattle.book_shares.specs.Shares.{exactOf}
 use Rattle.book.specs.Calls.{openRefusal, postRefusal, strikeRefusal, enrolRefusal, quoteRefusal}
 use Rattle.book.specs.Statements.{statementReply, statementOf, elementsOn, waitingOn, sharesOn, ofChain, waits}
 use Rattle.book_shares.specs.Closing.{closeRefusal}
+use Rattle.apportion.proofs.Grounds.{either}
 use Rattle.apportion.proofs.Sums.{sum-cong}
 use Rattle.book_words.proofs.Booleans.{and-both}
 use Rattle.book_words.proofs.Handed.{category-inside, open-shares, shares-all, shares-by-chain}
 use Rattle.book.proofs.Laws.{fresh-accepted, fresh-sound, open-sound, open-refused, post-sound, post-refused, strike-sound, strike-refused, enrol-sound, enrol-refused, quote-sound, quote-refused, close-sound, close-refused, statement-accepted}
 use Rattle.conservation.specs.declared.Call.{Call}
 use Rattle.conservation.specs.declared.Call.the-variants.{Open, Post, Strike, Enrol, Quote, Close}
-use Rattle.conservation.specs.Conserved.{gets, chainOf, waitsIn, chainGets, statementIn, quotedOn, statedOn, emissions, exactIn, chains, Conserved, Conservation}
+use Rattle.conservation.specs.Conserved.{gets, chainOf, waitsIn, chainGets, statementIn, quotedOn, statedOn, emissions, exactIn, Conserved, Conservation}
 use Rattle.conservation.specs.Runs.{Run, step, next, after, runOf}
 use Rattle.conservation.specs.Tally.{Enrolment, Quotation, enrolled, quoted, numbered, closedIn, feed}
 use Rattle.conservation.proofs.Near.{Near, near-fresh, near-open, near-post, near-strike, near-enrol, near-quote, near-close}
@@ -34,8 +33,8 @@ pub use Rattle.conservation.proofs.Listing.{numbered-each}
 
 -- a sound book whose closed categories' shares are near, with the tally that it is read as
 module _ (ws : List ℕ) (fine : sound ws ≡ true) where
-  known : (chain : ℕ) → 1 ≤ chain → chain ≤ chains → isChain chain ≡ true
-  known chain low high = and-both (leb 1 chain) (leb chain 10_000) (le-leb 1 chain low) (le-leb chain 10_000 high)
+  known : (chain : ℕ) → 1 ≤ chain → chain ≤ mostChains → isChain chain ≡ true
+  known chain low high = and-both (leb 1 chain) (leb chain mostChains) (le-leb 1 chain low) (le-leb chain mostChains high)
 
   -- the counts and sums of a statement are the tally's
   counted : (chain : ℕ) → elementsOn ws chain ≡ statementIn (tallyOf ws) ws chain .elements
@@ -70,14 +69,14 @@ module _ (ws : List ℕ) (fine : sound ws ≡ true) where
       let back : p + 1 - 1 ≡ p = omega arith in
       rw (chain-read (elementAt ws p), back)))
 
-  stated : (chain : ℕ) → 1 ≤ chain → chain ≤ chains → statementReply ws chain ≡ statementIn (tallyOf ws) ws chain
+  stated : (chain : ℕ) → 1 ≤ chain → chain ≤ mostChains → statementReply ws chain ≡ statementIn (tallyOf ws) ws chain
   unfolding statementOf
   stated chain low high =
       statement-accepted ws chain fine (known chain low high)
       ∙ rw (counted chain, waiting chain, gotten chain operation, gotten chain provision)
 
   -- what the statement of a chain says of a side
-  said : (side : Side) (p : ℕ) → p < chains → statedOn side (statementReply ws (p + 1)) ≡ sharesOn ws (p + 1) side
+  said : (side : Side) (p : ℕ) → p < mostChains → statedOn side (statementReply ws (p + 1)) ≡ sharesOn ws (p + 1) side
   unfolding statementOf
   said side p h = ap (statedOn side) (statement-accepted ws (p + 1) fine (known (p + 1) (omega arith) (omega arith))) ∙ of-side side
     where
@@ -85,10 +84,10 @@ module _ (ws : List ℕ) (fine : sound ws ≡ true) where
       of-side operation = refl
       of-side provision = refl
 
-  handed : (side : Side) → sumBelow chains (λ p. statedOn side (statementReply ws (p + 1))) ≡ emissions (tallyOf ws) side
+  handed : (side : Side) → sumBelow mostChains (λ p. statedOn side (statementReply ws (p + 1))) ≡ emissions (tallyOf ws) side
   unfolding sharesOn emissions sharesOf
   handed side =
-      sum-cong chains (λ p. statedOn side (statementReply ws (p + 1))) (λ p. sharesOn ws (p + 1) side) (said side)
+      sum-cong mostChains (λ p. statedOn side (statementReply ws (p + 1))) (λ p. sharesOn ws (p + 1) side) (said side)
       ∙ shares-by-chain ws fine side
       ∙ shares-all ws fine side
       ∙ sym (rw (closed-sum ws fine side, quoted-sum ws side))
@@ -104,12 +103,9 @@ module _ (ws : List ℕ) (fine : sound ws ≡ true) where
     category-closed : (b : Bool) → closedIn (tallyOf ws) (e .category) ≡ b → isClosed ws (elementAt ws (k - 1) .category) ≡ b
     category-closed b is′ =
         let there = record-read .0 in
-        sym (closed-read ws (elementAt ws (k - 1) .category) (above there) (category-inside ws fine (k - 1) inside))
+        sym (closed-read ws (elementAt ws (k - 1) .category) (omega arith) (category-inside ws fine (k - 1) inside))
         ∙ ap (λ (x : Enrolment). closedIn (tallyOf ws) (x .category)) (record-read .1)
         ∙ is′
-      where
-        above : {n : ℕ} → (n ≡ 0 → ⊥) → 1 ≤ n
-        above {n} ne = ⊎-elim (λ (z : n ≡ 0). absurd (ne z)) (λ (h : 0 < n). h) (eq-zero-or-pos n)
 
   conserving : Near ws → Conserved (tallyOf ws) ws
   conserving near =
@@ -138,36 +134,28 @@ sound-step ws (Enrol category chain code amount distance) fine = enrol-sound ws 
 sound-step ws (Quote chain adjust mass distance operationIntensity provisionIntensity) fine = quote-sound ws chain adjust mass distance operationIntensity provisionIntensity fine
 sound-step ws (Close category) fine = close-sound ws category fine
 
--- what holds of a book after an accepted call, and before, holds after any
-either : (P : List ℕ → Type 0) (refusal : ℕ) (old new : List ℕ) → ((refusal ≡ 0 → ⊥) → new ≡ old) → (refusal ≡ 0 → P new) → P old → P new
-either P refusal old new same made before =
-    ⊎-elim
-    (λ (e : refusal ≡ 0). made e)
-    (λ (h : 0 < refusal). rw (same (λ z. omega arith)) before)
-    (eq-zero-or-pos refusal)
-
 near-step : (ws : List ℕ) (call : Call) → Near ws → Near (step ws call .book)
 near-step ws (Open kind) near =
-    either Near (openRefusal ws kind) ws _ (open-refused ws kind) (λ e. near-open ws kind e near) near
+    either Near (openRefusal ws kind) _ ws (open-refused ws kind) (λ e. near-open ws kind e near) near
 near-step ws (Post category group quantity operationFactor provisionFactor) near =
-    either Near (postRefusal ws category group quantity operationFactor provisionFactor) ws _
+    either Near (postRefusal ws category group quantity operationFactor provisionFactor) _ ws
     (post-refused ws category group quantity operationFactor provisionFactor)
     (λ e. near-post ws category group quantity operationFactor provisionFactor e near)
     near
 near-step ws (Strike entry) near =
-    either Near (strikeRefusal ws entry) ws _ (strike-refused ws entry) (λ e. near-strike ws entry e near) near
+    either Near (strikeRefusal ws entry) _ ws (strike-refused ws entry) (λ e. near-strike ws entry e near) near
 near-step ws (Enrol category chain code amount distance) near =
-    either Near (enrolRefusal ws category chain code amount distance) ws _
+    either Near (enrolRefusal ws category chain code amount distance) _ ws
     (enrol-refused ws category chain code amount distance)
     (λ e. near-enrol ws category chain code amount distance e near)
     near
 near-step ws (Quote chain adjust mass distance operationIntensity provisionIntensity) near =
-    either Near (quoteRefusal ws chain adjust mass distance operationIntensity provisionIntensity) ws _
+    either Near (quoteRefusal ws chain adjust mass distance operationIntensity provisionIntensity) _ ws
     (quote-refused ws chain adjust mass distance operationIntensity provisionIntensity)
     (λ e. near-quote ws chain adjust mass distance operationIntensity provisionIntensity e near)
     near
 near-step ws (Close category) near =
-    either Near (closeRefusal ws category) ws _ (close-refused ws category) (λ e. near-close ws category e near) near
+    either Near (closeRefusal ws category) _ ws (close-refused ws category) (λ e. near-close ws category e near) near
 
 -- what holds of a run after every call: the book is sound, its shares are near, and the tally is what the book is read as
 record Kept (run : Run) : Type 0 where

@@ -10,6 +10,7 @@ use lib.ListN.{length}
 use Rattle.apportion.specs.Nearness.{Within}
 use Rattle.apportion.specs.Places.{sumBelow, oneIf}
 use Rattle.book_words.specs.Book.{bookLength, elementAt}
+use Rattle.book_words.specs.Measures.{mostChains}
 use Rattle.book_words.specs.Totals.{Side, operation, provision, shareOf}
 use Rattle.book_shares.specs.declared.weights.Takers.{Takers}
 use Rattle.book_shares.specs.declared.weights.Takers.the-variants.{Freight, Passengers, Group}
@@ -122,16 +123,12 @@ exactIn t side e =
     (e .code)
     (e .activity)
 
--- the chains, "1 to 10,000"
-abbrev pub chains : ℕ
-chains = 10_000
-
 -- demand 3, sentence by sentence
 pub record Conserved (t : Tally) (ws : List ℕ) : Type 0 where
   -- "each statement adds its own chain's shares alone"; each is accepted
-  pub each-statement : (chain : ℕ) → 1 ≤ chain → chain ≤ chains → statementReply ws chain ≡ statementIn t ws chain
+  pub each-statement : (chain : ℕ) → 1 ≤ chain → chain ≤ mostChains → statementReply ws chain ≡ statementIn t ws chain
   -- "all emissions of closed categories and quotes are handed out, none twice"
-  pub all-handed-out : (side : Side) → sumBelow chains (λ p. statedOn side (statementReply ws (p + 1))) ≡ emissions t side
+  pub all-handed-out : (side : Side) → sumBelow mostChains (λ p. statedOn side (statementReply ws (p + 1))) ≡ emissions t side
   -- "every share of a closed category is less than 3 micrograms from its exact fraction"
   pub closed-near : (k : ℕ) (e : Enrolment) → numbered (t .elements) k ≡ some (enrolled e) → closedIn t (e .category) ≡ true
       → (side : Side) → Within 3 (gets ws k side) (exactIn t side e .numerator) (exactIn t side e .denominator)
