@@ -5,6 +5,7 @@ import random
 import call_cases
 import closing_cases
 import conservation_cases
+import file_cases
 import intensity_cases
 import random_cases
 import soundness_cases
@@ -94,6 +95,7 @@ def add(plain_cases):
     soundness_cases.add(cases, rng)
     add_random(cases, lambda: random_cases.add(cases, rng))
     add_long_lists(cases, possible)
+    file_cases.add(cases)
     # The cases reckoned by hand have the same outcome after all the others.
     call_cases.reckoned_by_hand(cases)
 

@@ -8,9 +8,12 @@ import broken_lists
 import calls
 import closing_checks
 import conservation_checks
+import file_checks
 import player
 import records
 import tally_checks
+from file_writer import load_records
+from second_loading import second_load
 from second_way import Lists, is_sound_by_words, second_way
 
 SEED = 64
@@ -101,14 +104,15 @@ WRITTEN_OUT = (
     ("14 1 18446744073709551615", "bad record 1"),
     ("12 18446744073709551615 1", "bad record 1"),
     ("12 2999 18446744073709551615; 14 2999 1", "18446744073709551615"),
-    ("15; 1", "bad record 1"),
-    ("1; 15 1; 1", "0; bad record 2"),
+    ("16; 1", "bad record 1"),
+    ("1; 16 1; 1", "0; bad record 2"),
 )
 
 
 def written_out(check):
-    for text, lines in WRITTEN_OUT + closing_checks.WRITTEN_OUT:
-        data = b"".join(records.record(call) for call in text.split(";"))
+    for text, lines in (WRITTEN_OUT + closing_checks.WRITTEN_OUT
+                        + file_checks.WRITTEN_OUT):
+        data = b"".join(records.packed(line) for line in text.split(";"))
         output = "".join(line.strip() + "\n" for line in lines.split(";"))
         check(player.play(data) == output.encode("ascii"),
               "written out", text, player.play(data))
@@ -121,6 +125,22 @@ class BothWays:
         self.records = []
         self.player = player.Player()
         self.check = check
+        self.loads = []  # for each load: the file, the numbers, the words
+
+    def load(self, data):
+        state = self.player.state
+        words = state.words[:state.lent]
+        after = state.words[state.lent:]
+        for record in load_records(data):
+            self.records.append(record)
+            played = self.player.play(record)
+        numbers = second_load(words, data)
+        self.check(played == numbers, "a load by both ways", played, numbers,
+                   data.hex())
+        self.check(state.words == words + after,
+                   "the words of a load by both ways", played, data.hex())
+        self.loads.append((data, played, list(state.words)))
+        return played
 
     def record(self, operation, *arguments):
         state = self.player.state
@@ -144,10 +164,12 @@ class BothWays:
 
 
 def cases_by_both_ways(check):
-    """All cases of the book; then demand 3 from the lines of the long lists,
-    and that it is caught when it does not hold."""
+    """All cases of the book; then demand 3 from the lines of the long lists
+    and of what the loads came to, and that it is caught when it does not
+    hold."""
     both = BothWays(check)
     spans = book_cases.add(both).lists
+    file_checks.loads_conserve(check, both.loads)
     lists = []
     for records, lines in conservation_checks.lists_among(
             both.records, both.player.lines, spans):
@@ -405,4 +427,5 @@ def run(check):
     full_lists(check)
     random_calls(check)
     damaged_books(check)
+    file_checks.run(check)
     cases_by_both_ways(check)

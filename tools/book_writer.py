@@ -2,6 +2,7 @@
 
 import book
 import closing
+import file_writer
 import player
 from book import CATEGORIES, ELEMENTS, ENTRIES, word
 
@@ -53,6 +54,9 @@ class BookCases:
         self.closings = {}  # sort of accepted closing -> how many
         self.lists = []     # for each long list: played() before and after
         self.in_lists = {}  # the same as answers, of the long lists alone
+        self.loads = {}     # (number, call or none, its place) -> how many
+        self.loaded = []    # for each load: played() before and after
+        self.new_stop = False  # the last load was the first stop of its sort
 
     # Calls.
 
@@ -103,6 +107,32 @@ class BookCases:
         """All four, whatever each gives."""
         for code in closing.INTENSITY_CODES:
             self.intensity(category, code, gives=None)
+
+    def load(self, data, gives=(0, 0, 0)):
+        """Loads a file; `gives` are the number, the table and the record,
+        None for any."""
+        before = self.played()
+        numbers = self.cases.load(data)
+        if gives is not None and numbers != list(gives):
+            raise AssertionError("a load gives %r, not %r: %s"
+                                 % (numbers, gives, data[:400].hex()))
+        number, table, record = numbers
+        stop = (None, None)
+        if table > 0:
+            stop = file_writer.stop_of(data, table, record)
+        self.new_stop = table > 0 and (number, *stop) not in self.loads
+        count(self.loads, (number, *stop))
+        self.loaded.append((before, self.played()))
+        return numbers
+
+    def load_and_show(self, data, gives=(0, 0, 0)):
+        """Loads a file and shows the words that matter: all of the book
+        after the first stop of its sort, otherwise the counted ones."""
+        self.load(data, gives)
+        if self.new_stop:
+            self.dump(0, book.LENGTH)
+        else:
+            self.dump_book()
 
     def new_book(self, *kinds):
         self.fresh()

@@ -12,10 +12,14 @@ import subprocess
 import sys
 import time
 
+import file_parts
 import player
+from file_writer import (
+    EXAMPLE, MOST_BYTES, cut_to, file_of, load_records, with_header)
 
 LARGEST = 2 ** 64 - 1
 SECONDS = 60  # the longest that the program may take for one input
+CHUNK = 1024  # how many records the program reads at a time
 
 
 def record(operation, *arguments):
@@ -53,9 +57,123 @@ BOOK = (
 )
 
 
+def load(data):
+    return b"".join(load_records(data))
+
+
+# Loads that are loaded or stopped by a record, and the words after them.
+WORDS = dump(0, 3000)
+LOADS = (load(EXAMPLE) + record(player.STATEMENT, 7) + WORDS
+         + load(file_parts.WHOLE) + WORDS
+         + load(file_of(*file_parts.PARTS, (1, 2, 3, 4), 9)) + WORDS
+         + load(file_of([(1, 0), (1, 2)])) + WORDS
+         + load(with_header(EXAMPLE, mark=0)) + WORDS)
+# Nothing is printed for these, and nothing changes.
+HARMLESS = record(player.LEND, player.MOST_WORDS)
+
+
+def long_file(length):
+    """So many bytes with the same records; most of it is a gap."""
+    return cut_to(file_parts.WHOLE, length)
+
+
+def endings_in_files():
+    """Pairs of a name and an input: files that are whole and inputs that end
+    within them."""
+    found = []
+
+    def add(name, data):
+        found.append((name, data))
+
+    add("loads", LOADS)
+    add("loads after a book", BOOK + LOADS + BOOK)
+    add("loads between weights", weight(1) * 3 + LOADS + division(10, 3))
+    add("no bytes", record(player.LOAD, 0) + WORDS)
+    add("no bytes, twice", BOOK + record(player.LOAD, 0) * 2 + WORDS)
+    for lent in (0, 2403, 2404, 2405):
+        add("loads with %d words lent" % lent,
+            BOOK + record(player.LEND, lent) + LOADS)
+    # Lengths, each with all its bytes and dumps after them.
+    for length in (1, 31, 32, 33, 63, 64, 65, 127, 128, 129, 1000,
+                   MOST_BYTES - 1, MOST_BYTES, MOST_BYTES + 1,
+                   player.MOST_BYTES - 1, player.MOST_BYTES):
+        add("a file of %d bytes" % length,
+            BOOK + load(long_file(length)) + WORDS)
+        add("%d bytes of zeros" % length, BOOK + load(bytes(length)) + WORDS)
+        # Bytes that would be bad records.
+        add("%d bytes that are no operations" % length,
+            load(b"\xff" * length) + WORDS)
+    for length in (player.MOST_BYTES + 1, player.MOST_BYTES + 64, 2 ** 16,
+                   2 ** 31, 2 ** 32, 2 ** 32 + 216, 2 ** 63, 2 ** 63 + 216,
+                   2 ** 64 - 64, 2 ** 64 - 63, LARGEST):
+        add("a load of %d bytes" % length,
+            record(player.LOAD, length) + LOADS)
+        add("a load of %d bytes after a book" % length,
+            BOOK + record(player.LOAD, length) + BOOK)
+    # What fills the last record, and the arguments, are not looked at.
+    one = load(EXAMPLE)
+    add("padding", one[:-40] + b"\xff" * 40 + WORDS)
+    add("unused arguments of a load",
+        record(player.LOAD, 216, LARGEST, 1, 2, 3, 4, 5) + one[64:] + WORDS)
+
+    # The input ends before all bytes have come, after whole records.
+    for name, before in (("", b""), (" after a book", BOOK),
+                         (" after loads", LOADS)):
+        for length in (1, 64, 65, 216, MOST_BYTES, player.MOST_BYTES):
+            needed = load_records(long_file(length))
+            for count in sorted({1, 2, len(needed) // 2, len(needed) - 1}):
+                if count < len(needed):
+                    add("%d of %d records of a load of %d bytes%s"
+                        % (count, len(needed), length, name),
+                        before + b"".join(needed[:count]))
+    # The same, in a record that is cut short.
+    for left in (1, 8, 24, 31, 32, 63):
+        for count in (0, 1, 3):
+            add("%d bytes after %d records of a load" % (left, 1 + count),
+                BOOK + one[:64 * (1 + count) + left])
+        add("%d bytes of a load" % left, one[:left])
+        add("%d bytes of a load after one" % left, one + one[:left])
+        # All the file's bytes are there, the record is not.
+        add("%d bytes of a file of as many" % left,
+            load(bytes(left))[:64 + left])
+    add("the file's bytes without padding", one[:64 + 216])
+    add("a long file cut short", load(long_file(MOST_BYTES))[:-1])
+
+    # Files across the end of a chunk: which record of the input the load is.
+    for chunk_end in (CHUNK, 2 * CHUNK):
+        for data in (EXAMPLE, file_parts.WHOLE, long_file(MOST_BYTES),
+                     long_file(player.MOST_BYTES), b"", bytes(1), bytes(64),
+                     bytes(128)):
+            needed = len(load_records(data))
+            places = {chunk_end - needed, chunk_end - needed + 1,
+                      chunk_end - needed + 2, chunk_end - needed // 2,
+                      chunk_end - 1, chunk_end, chunk_end + 1}
+            for place in sorted(places):
+                before = BOOK + HARMLESS * (
+                    place - 1 - len(BOOK) // player.RECORD.size)
+                add("a file of %d bytes, loaded by record %d"
+                    % (len(data), place),
+                    before + load(data) + WORDS + load(EXAMPLE) + WORDS)
+        # The input ends at the end of the chunk, and beside it.
+        for data in (EXAMPLE, long_file(MOST_BYTES)):
+            for first in (chunk_end - 3, chunk_end):
+                loaded = HARMLESS * (first - 1) + load(data)
+                for end in (-64, -63, -1, 0, 1, 63, 64):
+                    add("a file of %d bytes from record %d to byte %d"
+                        % (len(data), first, 64 * chunk_end + end),
+                        loaded[:64 * chunk_end + end])
+    # One load after another over several chunks.
+    add("300 loads", load(EXAMPLE) * 300 + WORDS)
+    add("many loads of 65 bytes", (load(bytes(65)) + HARMLESS) * 1500)
+    add("10 long loads", load(long_file(MOST_BYTES)) * 10 + WORDS)
+    add("10 long loads, the last without its end",
+        (load(long_file(MOST_BYTES)) * 10)[:-64])
+    return found
+
+
 def endings():
     """Pairs of a name and an input."""
-    found = []
+    found = endings_in_files()
 
     def add(name, data):
         found.append((name, data))
@@ -122,7 +240,8 @@ def endings():
         add("operation %d first" % number, record(number, 1, 1) + THREE)
         add("operation %d after a division" % number,
             THREE + record(number) + THREE)
-    # 15 is none yet; 7, 8 and 9 are calls.
+    # 16 is none yet; 15 takes the next record.
+    add("operation 16 after a book", BOOK + record(16, 1) + BOOK)
     add("operation 15 after a book", BOOK + record(15, 1) + BOOK)
     add("a second closing", BOOK + record(player.CLOSE, 1) + dump(0, 47))
     add("a closing and an intensity of none",
@@ -223,6 +342,11 @@ def main(arguments):
             ("cut short in pieces of %d bytes" % size,
              THREE * 4 + THREE[:100], size),
             ("a book in pieces of %d bytes" % size, BOOK * 4, size),
+            ("loads in pieces of %d bytes" % size, LOADS, size),
+            ("a file without its end in pieces of %d bytes" % size,
+             load(EXAMPLE)[:-64], size),
+            ("a file cut short in pieces of %d bytes" % size,
+             load(EXAMPLE)[:-1], size),
         ]
     for name, data, size in runs:
         wanted = player.play(data)

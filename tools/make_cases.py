@@ -14,12 +14,17 @@ import sys
 
 import book_cases
 import calculation
+import file_cases
 import player
+from file_writer import load_records
 
 SEED = 14083
 ROOT = os.path.dirname(os.path.dirname(os.path.abspath(__file__)))
 STDIN = os.path.join("crates", "replay", "stdin")
 STDOUT = os.path.join("crates", "replay", "stdout")
+
+# The program reads so many records at a time.
+CHUNK = 1024
 
 LIMIT = 10 ** 18
 WORD = 2 ** 64
@@ -39,6 +44,13 @@ class Cases:
         words = (operation,) + arguments + (0,) * (7 - len(arguments))
         self.records.append(player.RECORD.pack(*words))
         return self.player.play(self.records[-1])
+
+    def load(self, data):
+        """Adds the records of a load: the numbers that it prints."""
+        for record in load_records(data):
+            self.records.append(record)
+            numbers = self.player.play(record)
+        return numbers
 
     def division(self, pool, weights, share_count=None):
         """Appends the weights, then divides; equal lengths by default."""
@@ -406,6 +418,8 @@ def make():
     cases = Cases()
     dividing_rule(cases)
     of_book = book_cases.add(cases)
+    if file_cases.straddling(of_book.loaded, CHUNK) < 10:
+        raise SystemExit("few loads on both sides of a chunk's end")
     ending(cases)
     return cases, of_book
 
@@ -424,6 +438,10 @@ def first_difference(path, fresh):
         place += 1
     return "%s differs from a fresh run at byte %d (stored %d bytes, fresh %d)" % (
         path, place, len(stored), len(fresh))
+
+
+def place_of_stop(name, place):
+    return "" if name is None else " at the %s %s" % (place, name)
 
 
 def main(arguments):
@@ -459,6 +477,11 @@ def main(arguments):
     print("%6d pairs of grounds in order" % len(of_book.pairs))
     for sort in book_cases.sorts_of_closings():
         print("%6d closings: %s" % (of_book.closings[sort], sort))
+    for (number, *stop), count in sorted(
+            of_book.loads.items(), key=lambda item: (item[0][0], str(item))):
+        print("%6d loads give %d%s" % (count, number, place_of_stop(*stop)))
+    print("%6d loads on both sides of a chunk's end"
+          % file_cases.straddling(of_book.loaded, CHUNK))
     return 0
 
 

@@ -5,6 +5,9 @@
 
 A record is 64 bytes: eight little-endian 64-bit words, the operation and
 seven arguments. An operation ignores the arguments that it does not use.
+
+The bytes of a file that is to be loaded come in the records after the one
+that says so, the last of them padded to a whole record.
 """
 
 import struct
@@ -12,12 +15,14 @@ import sys
 
 import calculation
 import calls
+import loading
 
 RECORD = struct.Struct("<8Q")
 
 MOST_LISTED = 300  # room in the list of weights, and the longest share slice
 UNWRITTEN = 7      # what every word of a share slice holds before the call
 MOST_WORDS = 3000  # the array that the book lies in
+MOST_BYTES = 16_448  # of a file: one record more than a file may have
 
 
 class BadRecord(Exception):
@@ -31,6 +36,22 @@ class State:
         self.weights = []
         self.words = [0] * MOST_WORDS
         self.lent = MOST_WORDS  # how many of the words a call gets
+        self.file = None        # the file whose bytes are still coming
+
+
+class ComingFile:
+    """The bytes of a file so far."""
+
+    def __init__(self, length):
+        self.length = length
+        self.come = b""
+
+    def is_whole(self):
+        return len(self.come) >= self.length
+
+    def data(self):
+        """Its bytes without the padding."""
+        return self.come[:self.length]
 
 
 # Each operation takes the state and the seven arguments. It returns the
@@ -91,6 +112,30 @@ def dump(state, arguments):
     return state.words[first:first + count]
 
 
+def load(state, arguments):
+    if arguments[0] > MOST_BYTES:
+        raise BadRecord
+    state.file = ComingFile(arguments[0])
+    return load_whole_file(state)
+
+
+def take_bytes(state, record):
+    """A record of bytes, while a file is coming."""
+    state.file.come += record
+    return load_whole_file(state)
+
+
+def load_whole_file(state):
+    """Loads the file when all its bytes have come."""
+    if not state.file.is_whole():
+        return None
+    lent = state.words[:state.lent]
+    numbers = loading.load(lent, state.file.data())
+    state.words[:state.lent] = lent
+    state.file = None
+    return list(numbers)
+
+
 FRESH, OPEN, POST, STRIKE, ENROL, QUOTE, CLOSE = 1, 2, 3, 4, 5, 6, 7
 STATEMENT = 8
 INTENSITY = 9
@@ -99,6 +144,7 @@ APPEND_WEIGHT = 11
 POKE = 12
 LEND = 13
 DUMP = 14
+LOAD = 15
 
 # The operations that are calls of a book.
 CALLS = {
@@ -120,6 +166,7 @@ OPERATIONS = {
     POKE: poke,
     LEND: lend,
     DUMP: dump,
+    LOAD: load,
 }
 
 
@@ -127,6 +174,8 @@ def play_record(state, record):
     """The numbers that one record prints, or None."""
     if len(record) != RECORD.size:
         raise BadRecord
+    if state.file is not None:
+        return take_bytes(state, record)
     words = RECORD.unpack(record)
     if words[0] not in OPERATIONS:
         raise BadRecord
@@ -150,12 +199,21 @@ class Player:
         try:
             numbers = play_record(self.state, record)
         except BadRecord:
-            self.ended = True
-            self.lines.append("bad record %d\n" % self.played)
+            self.end_badly(self.played)
             return None
         if numbers is not None:
             self.lines.append(" ".join(map(str, numbers)) + "\n")
         return numbers
+
+    def end_badly(self, number):
+        self.ended = True
+        self.lines.append("bad record %d\n" % number)
+
+    def end(self):
+        """The input ends here. Where bytes of a file have not come, the
+        record that did not come is a bad one."""
+        if not self.ended and self.state.file is not None:
+            self.end_badly(self.played + 1)
 
     def output(self):
         return "".join(self.lines).encode("ascii")
@@ -168,6 +226,7 @@ def play(data):
         player.play(data[start:start + RECORD.size])
         if player.ended:
             break
+    player.end()
     return player.output()
 
 

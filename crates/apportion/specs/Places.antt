@@ -25,7 +25,7 @@ listBelow zero f = []
 listBelow (suc n) f = listBelow n f ++ (f n ∷ [])
 
 -- the list of f k for those places k below n that pass the test, in their order
-abbrev pub keptBelow : ℕ → (ℕ → Bool) → (ℕ → ℕ) → List ℕ
+abbrev pub keptBelow : {A : Type 0} → ℕ → (ℕ → Bool) → (ℕ → A) → List A
 keptBelow zero test f = []
 keptBelow (suc n) test f = keptBelow n test f ++ cond (test n) (f n ∷ []) []
 

@@ -13,9 +13,8 @@ use Rattle.book_words.specs.Measures.{isChain, mostChains}
 use Rattle.book_words.specs.Soundness.{sound}
 use Rattle.book_words.specs.Totals.{Side, operation, provision, shareOf, sharesOf}
 use Rattle.book_shares.specs.Shares.{exactOf}
-use Rattle.book.specs.Calls.{openRefusal, postRefusal, strikeRefusal, enrolRefusal, quoteRefusal}
+use Rattle.book.specs.Calls.{openReply, postReply, enrolReply, quoteReply}
 use Rattle.book.specs.Statements.{statementReply, statementOf, elementsOn, waitingOn, sharesOn, ofChain, waits}
-use Rattle.book_shares.specs.Closing.{closeRefusal}
 use Rattle.apportion.proofs.Grounds.{either}
 use Rattle.apportion.proofs.Sums.{sum-cong}
 use Rattle.book_words.proofs.Booleans.{and-both}
@@ -125,37 +124,44 @@ module _ (ws : List ℕ) (fine : sound ws ≡ true) where
       of-side operation k q e = ap (λ (x : Quotation). x .operation) e
       of-side provision k q e = ap (λ (x : Quotation). x .provision) e
 
--- a call, accepted or refused, leaves a sound book sound and its shares near
-sound-step : (ws : List ℕ) (call : Call) → sound ws ≡ true → sound (step ws call .book) ≡ true
-sound-step ws (Open kind) fine = open-sound ws kind fine
-sound-step ws (Post category group quantity operationFactor provisionFactor) fine = post-sound ws category group quantity operationFactor provisionFactor fine
-sound-step ws (Strike entry) fine = strike-sound ws entry fine
-sound-step ws (Enrol category chain code amount distance) fine = enrol-sound ws category chain code amount distance fine
-sound-step ws (Quote chain adjust mass distance operationIntensity provisionIntensity) fine = quote-sound ws chain adjust mass distance operationIntensity provisionIntensity fine
-sound-step ws (Close category) fine = close-sound ws category fine
+-- a refused call leaves the book as it was
+pub step-refused : (ws : List ℕ) (call : Call) → (step ws call .reply .refusal ≡ 0 → ⊥) → step ws call .book ≡ ws
+unfolding openReply postReply enrolReply quoteReply
+step-refused ws (Open kind) = open-refused ws kind
+step-refused ws (Post category group quantity operationFactor provisionFactor) =
+    post-refused ws category group quantity operationFactor provisionFactor
+step-refused ws (Strike entry) = strike-refused ws entry
+step-refused ws (Enrol category chain code amount distance) = enrol-refused ws category chain code amount distance
+step-refused ws (Quote chain adjust mass distance operationIntensity provisionIntensity) =
+    quote-refused ws chain adjust mass distance operationIntensity provisionIntensity
+step-refused ws (Close category) = close-refused ws category
+
+-- a call, accepted or refused, leaves a sound book sound
+pub sound-step : (ws : List ℕ) (call : Call) → sound ws ≡ true → sound (step ws call .book) ≡ true
+sound-step ws (Open kind) = open-sound ws kind
+sound-step ws (Post category group quantity operationFactor provisionFactor) =
+    post-sound ws category group quantity operationFactor provisionFactor
+sound-step ws (Strike entry) = strike-sound ws entry
+sound-step ws (Enrol category chain code amount distance) = enrol-sound ws category chain code amount distance
+sound-step ws (Quote chain adjust mass distance operationIntensity provisionIntensity) =
+    quote-sound ws chain adjust mass distance operationIntensity provisionIntensity
+sound-step ws (Close category) = close-sound ws category
+
+-- an accepted call leaves the shares near
+near-made : (ws : List ℕ) (call : Call) → step ws call .reply .refusal ≡ 0 → Near ws → Near (step ws call .book)
+unfolding openReply postReply enrolReply quoteReply
+near-made ws (Open kind) = near-open ws kind
+near-made ws (Post category group quantity operationFactor provisionFactor) =
+    near-post ws category group quantity operationFactor provisionFactor
+near-made ws (Strike entry) = near-strike ws entry
+near-made ws (Enrol category chain code amount distance) = near-enrol ws category chain code amount distance
+near-made ws (Quote chain adjust mass distance operationIntensity provisionIntensity) =
+    near-quote ws chain adjust mass distance operationIntensity provisionIntensity
+near-made ws (Close category) = near-close ws category
 
 near-step : (ws : List ℕ) (call : Call) → Near ws → Near (step ws call .book)
-near-step ws (Open kind) near =
-    either Near (openRefusal ws kind) _ ws (open-refused ws kind) (λ e. near-open ws kind e near) near
-near-step ws (Post category group quantity operationFactor provisionFactor) near =
-    either Near (postRefusal ws category group quantity operationFactor provisionFactor) _ ws
-    (post-refused ws category group quantity operationFactor provisionFactor)
-    (λ e. near-post ws category group quantity operationFactor provisionFactor e near)
-    near
-near-step ws (Strike entry) near =
-    either Near (strikeRefusal ws entry) _ ws (strike-refused ws entry) (λ e. near-strike ws entry e near) near
-near-step ws (Enrol category chain code amount distance) near =
-    either Near (enrolRefusal ws category chain code amount distance) _ ws
-    (enrol-refused ws category chain code amount distance)
-    (λ e. near-enrol ws category chain code amount distance e near)
-    near
-near-step ws (Quote chain adjust mass distance operationIntensity provisionIntensity) near =
-    either Near (quoteRefusal ws chain adjust mass distance operationIntensity provisionIntensity) _ ws
-    (quote-refused ws chain adjust mass distance operationIntensity provisionIntensity)
-    (λ e. near-quote ws chain adjust mass distance operationIntensity provisionIntensity e near)
-    near
-near-step ws (Close category) near =
-    either Near (closeRefusal ws category) _ ws (close-refused ws category) (λ e. near-close ws category e near) near
+near-step ws call near =
+    either Near (step ws call .reply .refusal) (step ws call .book) ws (step-refused ws call) (λ e. near-made ws call e near) near
 
 -- what holds of a run after every call: the book is sound, its shares are near, and the tally is what the book is read as
 record Kept (run : Run) : Type 0 where

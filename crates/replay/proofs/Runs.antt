@@ -1,23 +1,21 @@
--- What the records do, from the tests that the code makes. Assumes nothing.
+-- What operations do, from the tests that the code makes. Assumes nothing.
 use Prim.Native.Nat.{ℕ, zero, suc, _+_, _≤_, _<_, min}
 use native.Mathlib.Nat.{zero-min, min-zero, suc-min-suc}
 use native.Mathlib.Numerals.{add-one}
 use native.Mathlib.Omega.{arith}
 use mathlib.Core.Path.{_≡_, refl, ap}
-use mathlib.Core.Bool.{true, false}
 use mathlib.Core.List.{List, [], _∷_, _++_}
 use borrow.Author.Tests.{lt-ltb, le-ltb, le-leb}
-use lib.ListN.{length, take, drop, set, replicate, length-drop}
+use lib.ListN.{length, take, drop, set, replicate}
 use lib.Seq.{length-take-le, take-all, take-suc-set}
 use Rattle.replay.specs.declared.output.Output.{Output}
-use Rattle.replay.specs.declared.records.Words.{Words}
 use Rattle.replay.specs.declared.state.State.{State}
 use Rattle.replay.specs.Waiting.{waitingIn, put}
-use Rattle.replay.specs.Answers.{Loan, loanOf, answered}
-use Rattle.replay.specs.Replay.{room, Run, runOf, bad, returned, called, listed, answer, dividedRun, handled, stopped, replayed, recordsIn}
+use Rattle.replay.specs.Answers.{Loan, loanOf}
+use Rattle.replay.specs.Replay.{room, runOf, bad, loan, returned, listed, answer, dividedRun}
 
 -- as many as are counted, within a list
-take-min : (n : ℕ) (xs : List ℕ) → take (min n (length xs)) xs ≡ take n xs
+pub take-min : (n : ℕ) (xs : List ℕ) → take (min n (length xs)) xs ≡ take n xs
 take-min zero xs = rw zero-min
 take-min (suc n) [] = rw min-zero
 take-min (suc n) (x ∷ xs) = rw (suc-min-suc, take-min n xs)
@@ -34,15 +32,14 @@ pub left-is : {Answer : Type 0} {answer answer′ : Answer} {book book′ waitin
     → _≡_ {A = Loan} (record { book = book; waiting = waiting′ }) (record { book = book′; waiting = put waiting (text answer′) })
 left-is text waiting made put-is = rw (put-is, made .0, made .1)
 
--- operations 1 to 7 and 9, on the first `n` words of the array, as many as are lent
-pub call-returned : (words : Words) (n : ℕ) (weights array buffer book buffer′ : List ℕ) (state : State) (after : Output)
+-- a call or a load, on the first `n` words of the array, as many as are lent
+pub call-returned : (call : Loan → Loan) (n : ℕ) (weights array buffer book buffer′ : List ℕ) (state : State) (after : Output)
     → n ≡ min (state .lent) (length array)
-    → loanOf book buffer′ after ≡ answered words (loanOf (take n array) buffer (state .output))
+    → loanOf book buffer′ after ≡ call (loanOf (take n array) buffer (state .output))
     → runOf weights (book ++ drop n array) buffer′
     (record { count = state .count; lent = state .lent; good = state .good; output = after })
-    ≡ called words (runOf weights array buffer state)
-unfolding called
-call-returned words n weights array buffer book buffer′ state after n-is answer-is =
+    ≡ returned (call (loan (runOf weights array buffer state))) (runOf weights array buffer state)
+call-returned call n weights array buffer book buffer′ state after n-is answer-is =
     let run = runOf weights array buffer state in
     let on-lent = rw (n-is, take-min) at answer-is in
     rw (n-is, drop-min) (ap (λ (loan : Loan). returned loan run) on-lent)
@@ -80,14 +77,3 @@ pub divide-good : (pool size n : ℕ) (weights array buffer buffer′ : List ℕ
 unfolding dividedRun
 divide-good pool size n weights array buffer buffer′ state after h n-is put-is =
     rw (le-leb size room h, put-is, n-is, take-min, take-replicate size room 7 h)
-
--- a turn of the loop over the records of a chunk, after which the run is `next`
-module _ (passed : ℕ) (bytes : List ℕ) (run next : Run) (more : 0 < length bytes) (done : next ≡ handled bytes run) where
-  one-record : recordsIn bytes ≡ suc (recordsIn (drop 64 bytes))
-  one-record = rw length-drop (omega arith)
-
-  pub replay-on : next .good ≡ true → replayed (passed + 1) (drop 64 bytes) next ≡ replayed passed bytes run
-  replay-on good = rw (one-record, ← done, good)
-
-  pub replay-stop : next .good ≡ false → stopped (passed + 1) next ≡ replayed passed bytes run
-  replay-stop ended = rw (one-record, ← done, ended)

@@ -1,4 +1,4 @@
--- Operations 1 to 9: what a call of the book prints, and what it leaves of the lent words. Assumes nothing.
+-- Operations 1 to 9 and 15: what a call of the book or a load prints, and what it leaves of the lent words. Assumes nothing.
 use Prim.Native.Nat.{ℕ}
 use mathlib.Core.Bool.{cond}
 use mathlib.Core.List.{List, [], _∷_}
@@ -10,6 +10,9 @@ use Rattle.book.specs.declared.replies.Reply.{Reply}
 use Rattle.book.specs.declared.replies.Statement.{Statement}
 use Rattle.book.specs.Calls.{freshRefusal, freshBook, openReply, openBook, postReply, postBook, strikeRefusal, strikeBook, enrolReply, enrolBook, quoteReply, quoteBook}
 use Rattle.book.specs.Statements.{statementReply}
+use Rattle.book_file.specs.declared.answers.Numbers.{Numbers}
+use Rattle.book_file.specs.Answers.{numbersOf}
+use Rattle.book_file.specs.Loading.{loadAnswer, loadBook}
 use Rattle.replay.specs.declared.output.Output.{Output}
 use Rattle.replay.specs.declared.records.Words.{Words}
 use Rattle.replay.specs.Text.{line}
@@ -43,6 +46,10 @@ intensityLine reply = line (reply .refusal) (reply .operation ∷ reply .provisi
 abbrev pub statementLine : Statement → List ℕ
 statementLine reply =
     line (reply .refusal) (reply .elements ∷ reply .waiting ∷ reply .operation ∷ reply .provision ∷ reply .total ∷ [])
+
+-- the line of a load's refusal number, table and record
+abbrev pub loadLine : Numbers → List ℕ
+loadLine numbers = line (numbers .refusal) (numbers .table ∷ numbers .number ∷ [])
 
 abbrev pub freshCall : Loan → Loan
 freshCall loan = leaving (refusalLine (freshRefusal (loan .book))) (freshBook (loan .book)) loan
@@ -102,3 +109,8 @@ answered words loan =
     (cond (eqb (words .operation) 7) (closeCall words loan)
     (cond (eqb (words .operation) 8) (statementCall words loan)
     (intensityCall words loan))))))))
+
+-- a load of a file
+abbrev pub loadCall : List ℕ → Loan → Loan
+loadCall file loan =
+    leaving (loadLine (numbersOf (loadAnswer (loan .book) file))) (loadBook (loan .book) file) loan

@@ -3,3 +3,4 @@ pub mod Text
 pub mod Waiting
 pub mod Answers
 pub mod Replay
+pub mod Stages

@@ -1,5 +1,5 @@
--- What the records of the input do, one after the other. Assumes nothing.
-use Prim.Native.Nat.{ℕ, zero, suc, _+_, _/_}
+-- What the words of a record do, by their operation. Assumes nothing.
+use Prim.Native.Nat.{ℕ, _+_}
 use mathlib.Core.Bool.{Bool, true, false, cond, _&&_}
 use mathlib.Core.List.{List, [], _∷_, _++_}
 use lib.Dec.{eqb, ltb, leb}
@@ -8,7 +8,6 @@ use Rattle.apportion.specs.Places.{sumOf}
 use Rattle.apportion.specs.Dividing.{refusal, sharesAfter}
 use Rattle.replay.specs.declared.records.Words.{Words}
 use Rattle.replay.specs.declared.state.State.{State}
-use Rattle.replay.specs.Words.{wordsOf}
 use Rattle.replay.specs.Text.{line, numbersLine, badLine}
 use Rattle.replay.specs.Waiting.{waitingIn, put}
 use Rattle.replay.specs.Answers.{Loan, answered}
@@ -121,26 +120,6 @@ performed words run =
     (cond (eqb (words .operation) 14) (dumped (words .first) (words .second) run)
     (bad run))))))
 
--- what the record at the start of the bytes does; one that is cut short is bad
-unfoldable pub handled : List ℕ → Run → Run
-handled bytes run = cond (ltb (length bytes) 64) (bad run) (performed (wordsOf bytes) run)
-
 -- a bad record's line is the last
 abbrev pub stopped : ℕ → Run → Run
 stopped number run = bad (printed (badLine number) run)
-
--- what `left` records at the start of the bytes do, after `passed` records; a bad one is the last
-abbrev pub replayedOf : ℕ → ℕ → List ℕ → Run → Run
-replayedOf zero passed bytes run = run
-replayedOf (suc left) passed bytes run =
-    cond (handled bytes run .good)
-    (replayedOf left (passed + 1) (drop 64 bytes) (handled bytes run))
-    (stopped (passed + 1) (handled bytes run))
-
--- how many records the bytes are, the last of which may be cut short
-abbrev pub recordsIn : List ℕ → ℕ
-recordsIn bytes = (length bytes + 63) / 64
-
--- what the records of the bytes do, after `passed` records
-abbrev pub replayed : ℕ → List ℕ → Run → Run
-replayed passed bytes run = replayedOf (recordsIn bytes) passed bytes run

@@ -5,18 +5,21 @@
 mod array;
 mod calls;
 mod dividing;
+mod files;
 mod operations;
 mod output;
 mod records;
 mod state;
 
 ghost use mathlib.Core.Path.{_≡_};
-ghost use mathlib.Core.Bool.{true};
-ghost use Prim.Native.Nat.{_+_, _<_, _^_};
+ghost use mathlib.Core.Bool.{true, cond, _&&_};
+ghost use Prim.Native.Nat.{_+_, _-_, _<_, _^_};
 ghost use lib.ListN.{length};
-ghost use Rattle.replay.specs.Replay.{runOf, replayed};
+ghost use Rattle.replay.specs.Stages.{stageOf, replayed};
 use array::Array;
 use dividing::Weights;
+use files::File;
+use files::Progress;
 use libc::STDIN_FILENO;
 use output::Buffer;
 use state::State;
@@ -28,28 +31,43 @@ fn run(
     chunk: &[u8],
     weights: &mut Weights,
     array: &mut Array,
+    file: &mut File,
     buffer: &mut Buffer,
-    start: State,
-) -> State
+    start: Progress,
+) -> Progress
     requires { ⌜ passed + length (now chunk) < 2 ^ 64 ⌝ }
-    ensures { λ r. ⌜ (r .output .ok ≡ true → runOf (now (weights .exit)) (now (array .exit)) (now (buffer .exit)) r
-        ≡ replayed passed (now (chunk .entry)) (runOf (now (weights .entry)) (now (array .entry)) (now (buffer .entry)) start)) ⌝ }
+    ensures { λ r. ⌜ (r .state .output .ok ≡ true
+        → stageOf (now (weights .exit)) (now (array .exit)) (now (file .exit)) (now (buffer .exit)) r
+        ≡ replayed passed (now (chunk .entry))
+        (stageOf (now (weights .entry)) (now (array .entry)) (now (file .entry)) (now (buffer .entry)) start)) ⌝ }
 {
-    let mut state = start;
+    let mut progress = start;
     let mut number = passed;
     let mut at = 0;
     while at < chunk.len() {
         number += 1;
-        state = operations::handle(&chunk[at..], weights, array, buffer, state);
-        if !state.good {
-            return state::stop(number, buffer, state);
+        progress = operations::handle(&chunk[at..], weights, array, file, buffer, progress);
+        if !progress.state.good {
+            return files::stop(number, buffer, progress);
         }
-        if !state.output.ok {
-            return state;
+        if !progress.state.output.ok {
+            return progress;
         }
         at += records::SIZE;
     }
-    state
+    progress
+}
+
+// The turns that are left: none after the last chunk, a bad record or a write that failed.
+fn turns_left(turns: u64, whole: bool, state: State) -> u64
+    requires { ⌜ 0 < turns ⌝ }
+    ensures { λ r. ⌜ r ≡ cond (whole && state .good && state .output .ok) (turns - 1) 0 ⌝ }
+    ensures { λ r. ⌜ r < turns ⌝ }
+{
+    if whole & state.good & state.output.ok {
+        return turns - 1;
+    }
+    0
 }
 
 // A proved loop has to end, and nothing says that the input does. So the loop counts its turns down, from
@@ -59,24 +77,24 @@ fn main() {
     let mut buffer = io::large_buffer();
     let mut weights = [0u64; dividing::ROOM];
     let mut array = [0u64; array::LENGTH];
-    let mut state = state::first();
+    let mut file = [0u8; files::ROOM];
+    let mut progress = files::first();
     let mut passed = 0;
     let mut turns = u64::MAX / 65536;
     while turns > 0 {
-        turns -= 1;
         let got = io::read_full(STDIN_FILENO, &mut chunk);
-        state = run(
+        progress = run(
             passed,
             &chunk[..got],
             &mut weights,
             &mut array,
+            &mut file,
             &mut buffer,
-            state,
+            progress,
         );
         passed += (got / records::SIZE) as u64;
-        if got < chunk.len() || !state.good || !state.output.ok {
-            break;
-        }
+        turns = turns_left(turns, got == chunk.len(), progress.state);
     }
+    let state = files::end(passed + 1, &mut buffer, progress);
     output::flush(&buffer, state.output);
 }

@@ -1,11 +1,15 @@
 // What a record does, by its operation.
 ghost use mathlib.Core.Path.{_≡_};
-ghost use Rattle.replay.specs.Replay.{runOf, handled, performed};
+ghost use Rattle.replay.specs.Replay.{runOf, performed};
+ghost use Rattle.replay.specs.Stages.{stageOf, handled};
 use crate::array;
 use crate::array::Array;
 use crate::calls;
 use crate::dividing;
 use crate::dividing::Weights;
+use crate::files;
+use crate::files::File;
+use crate::files::Progress;
 use crate::output::Buffer;
 use crate::records;
 use crate::records::Words;
@@ -17,16 +21,36 @@ pub fn handle(
     bytes: &[u8],
     weights: &mut Weights,
     array: &mut Array,
+    file: &mut File,
     buffer: &mut Buffer,
-    state: State,
-) -> State
-    ensures { λ r. ⌜ runOf (now (weights .exit)) (now (array .exit)) (now (buffer .exit)) r
-        ≡ handled (now (bytes .entry)) (runOf (now (weights .entry)) (now (array .entry)) (now (buffer .entry)) state) ⌝ }
+    progress: Progress,
+) -> Progress
+    ensures { λ r. ⌜ stageOf (now (weights .exit)) (now (array .exit)) (now (file .exit)) (now (buffer .exit)) r
+        ≡ handled (now (bytes .entry))
+        (stageOf (now (weights .entry)) (now (array .entry)) (now (file .entry)) (now (buffer .entry)) progress) ⌝ }
 {
+    let state = progress.state;
+    let come = progress.come;
+    let missing = progress.missing;
     if bytes.len() < records::SIZE {
-        return state::bad(state);
+        return Progress {
+            state: state::bad(state),
+            come,
+            missing,
+        };
     }
-    perform(records::read(bytes), weights, array, buffer, state)
+    if missing > 0 {
+        return files::take(bytes, array, file, buffer, progress);
+    }
+    let words = records::read(bytes);
+    if words.operation == 15 {
+        return files::begin(words.first, array, file, buffer, state);
+    }
+    Progress {
+        state: perform(words, weights, array, buffer, state),
+        come,
+        missing,
+    }
 }
 
 // Does what the words of a record ask.

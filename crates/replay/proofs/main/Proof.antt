@@ -1,5 +1,5 @@
 -- `replay::main` is safe and ends. The loop's invariant: the chunk keeps its size, and the records of the turns that are
--- left can be numbered. Assumes nothing.
+-- left can be numbered, and one more. Assumes nothing.
 use Prim.Native.Nat.{_+_, _*_, _<_, _^_}
 use mathlib.Core.Path.{_≡_}
 use lib.ListN.{length}
@@ -8,11 +8,12 @@ use Rattle.replay.proofs.main.Statement.{statement}
 use Rattle.replay.proofs.main.Tie as tie
 
 abbrev Inv-loop : tie.InvT-loop
-Inv-loop chunk₀ buffer₀ weights₀ array₀ state₀ passed₀ turns₀ chunk buffer weights array state passed turns =
-    (length chunk ≡ 65_536) × (passed + 65_536 * turns < 2 ^ 64)
+Inv-loop chunk₀ buffer₀ weights₀ array₀ file₀ progress₀ passed₀ turns₀ chunk buffer weights array file progress passed turns =
+    (length chunk ≡ 65_536) × (passed + 65_536 * turns + 1 < 2 ^ 64)
 
 abbrev μ-loop : tie.MeasureT-loop
-μ-loop chunk₀ buffer₀ weights₀ array₀ state₀ passed₀ turns₀ chunk buffer weights array state passed turns = turns
+μ-loop chunk₀ buffer₀ weights₀ array₀ file₀ progress₀ passed₀ turns₀ chunk buffer weights array file progress passed turns =
+    turns
 
 large-buffer-requires : tie.Need-large-buffer-requires Inv-loop μ-loop
 large-buffer-requires c κs = search needs
@@ -25,9 +26,6 @@ first-requires c κs = search needs
 
 loop-holds : tie.Need-loop-holds Inv-loop μ-loop
 loop-holds c = search needs
-
-sub-turns : tie.Need-sub-turns Inv-loop μ-loop
-sub-turns c = search needs
 
 slice-aggregate-read-full : tie.Need-slice-aggregate-read-full Inv-loop μ-loop
 slice-aggregate-read-full c = search needs
@@ -47,11 +45,20 @@ run-requires c κs = search needs
 add-passed : tie.Need-add-passed Inv-loop μ-loop
 add-passed c = search needs
 
+turns-left-requires : tie.Need-turns-left-requires Inv-loop μ-loop
+turns-left-requires c κs = search needs
+
 loop-less : tie.Need-loop-less Inv-loop μ-loop
 loop-less c = search needs
 
 loop-again : tie.Need-loop-again Inv-loop μ-loop
 loop-again c = search needs
+
+add-end : tie.Need-add-end Inv-loop μ-loop
+add-end c = search needs
+
+end-requires : tie.Need-end-requires Inv-loop μ-loop
+end-requires c κs = search needs
 
 flush-requires : tie.Need-flush-requires Inv-loop μ-loop
 flush-requires c κs = search needs
@@ -69,14 +76,16 @@ main-spec =
     large-buffer-requires-2
     first-requires
     loop-holds
-    sub-turns
     slice-aggregate-read-full
     read-full-requires
     array-share-prefix-chunk
     slice-aggregate-run
     run-requires
     add-passed
+    turns-left-requires
     loop-less
     loop-again
+    add-end
+    end-requires
     flush-requires
     returns)

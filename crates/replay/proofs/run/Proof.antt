@@ -9,22 +9,23 @@ use borrow.Author.Needs.{needs}
 use borrow.Author.Tests.{not-true, not-false}
 use lib.ListN.{length, drop, length-drop, drop-of-length-le}
 use lib.Seq.{take-all, drop-drop}
-use Rattle.replay.specs.Replay.{runOf, handled, replayed}
-use Rattle.replay.proofs.Runs.{replay-on, replay-stop}
+use Rattle.replay.specs.Stages.{stageOf, handled, replayed}
+use Rattle.replay.proofs.Stages.{replay-on, replay-stop}
 use Rattle.replay.proofs.run.Statement.{statement}
 use Rattle.replay.proofs.run.Tie as tie
 
 abbrev Inv-loop : tie.InvT-loop
-Inv-loop passed chunk weights₀ array₀ buffer₀ state₀ number₀ at₀ weights array buffer state number at =
-    (replayed number (drop at chunk) (runOf weights array buffer state) ≡ replayed passed chunk (runOf weights₀ array₀ buffer₀ state₀))
+Inv-loop passed chunk weights₀ array₀ file₀ buffer₀ progress₀ number₀ at₀ weights array file buffer progress number at =
+    (replayed number (drop at chunk) (stageOf weights array file buffer progress)
+    ≡ replayed passed chunk (stageOf weights₀ array₀ file₀ buffer₀ progress₀))
     × (number + (length chunk - at) ≤ passed + length chunk)
 
 abbrev μ-loop : tie.MeasureT-loop
-μ-loop passed chunk weights₀ array₀ buffer₀ state₀ number₀ at₀ weights array buffer state number at = length chunk - at
+μ-loop passed chunk weights₀ array₀ file₀ buffer₀ progress₀ number₀ at₀ weights array file buffer progress number at = length chunk - at
 
 -- the head of a turn, and the bytes that are left there
 abbrev head : tie.After-handle Inv-loop μ-loop → tie.At-loop Inv-loop μ-loop
-head c = c .before .before .before .before .before .before
+head c = c .before .before .before .before .before .before .before
 
 abbrev left : tie.After-handle Inv-loop μ-loop → List ℕ
 left c = drop (head c .loop .at) (head c .before .before .args .chunk .now)
@@ -34,8 +35,9 @@ more c = rw length-drop (omega arith)
 
 -- the first record of those bytes is handled
 done : (c : tie.After-handle Inv-loop μ-loop)
-    → runOf (c .handle .last .1 .0) (c .handle .last .1 .1 .0) (c .handle .last .1 .1 .1 .0) (c .handle .result)
-    ≡ handled (left c) (runOf (head c .loop .weights) (head c .loop .array) (head c .loop .buffer) (head c .loop .state))
+    → stageOf (c .handle .last .1 .0) (c .handle .last .1 .1 .0) (c .handle .last .1 .1 .1 .0) (c .handle .last .1 .1 .1 .1 .0) (c .handle .result)
+    ≡ handled (left c)
+    (stageOf (head c .loop .weights) (head c .loop .array) (head c .loop .file) (head c .loop .buffer) (head c .loop .progress))
 done c =
     let all = le-of-eq (length-drop (head c .loop .at) (head c .before .before .args .chunk .now)) in
     rw (take-all _ (left c) all) at (c .handle .ensures)
@@ -65,12 +67,12 @@ returns : tie.Need-returns Inv-loop μ-loop
 returns c ok =
     let bad = c .before .before in
     let turn = bad .before .before in
-    c .stop .ensures _ _
+    c .stop .ensures _ _ _
     ∙ replay-stop (head turn .loop .number) (left turn) _ _ (more turn) (done turn) (not-true _ (bad .if1 .taken))
     ∙ head turn .loop .inv .0
 
 returns-2 : tie.Need-returns-2 Inv-loop μ-loop
-returns-2 c ok = cc (not-true (c .before .before .before .before .handle .result .output .ok) (c .if2 .taken))
+returns-2 c ok = cc (not-true (c .before .before .before .before .handle .result .state .output .ok) (c .if2 .taken))
 
 add-at : tie.Need-add-at Inv-loop μ-loop
 add-at c = search needs

@@ -1,6 +1,8 @@
 -- `replay::calls::call` meets its contract. Assumes nothing.
 use native.Mathlib.Omega.{arith}
 use mathlib.Core.Path.{sym}
+use Rattle.replay.specs.Answers.{answered}
+use Rattle.replay.specs.Replay.{called}
 use borrow.Author.Needs.{needs}
 use lib.Seq.{length-take-le}
 use Rattle.replay.proofs.Runs.{call-returned}
@@ -23,11 +25,12 @@ same-length : tie.Need-same-length
 same-length c = search needs
 
 returns : tie.Need-returns
+unfolding called
 returns c weights =
     let made = c .before .before in
     let counted = made .before .before .before .before in
     let args = counted .before .before .args in
-    call-returned (args .words) (counted .least .result) weights (args .array .now) (args .buffer .now) _ _ (args .state)
+    call-returned (answered (args .words)) (counted .least .result) weights (args .array .now) (args .buffer .now) _ _ (args .state)
     (made .answer .result)
     (counted .least .ensures)
     (made .answer .ensures)

@@ -1,0 +1,4 @@
+pub mod Spelling
+pub mod Headers
+pub mod Carrying
+pub mod Laws

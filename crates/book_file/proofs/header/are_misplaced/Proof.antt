@@ -1,0 +1,63 @@
+-- `book_file::header::are_misplaced` meets its contract: each section is as its function ensures. Assumes nothing.
+use borrow.Author.Needs.{needs}
+use Rattle.book_file.specs.File.{wrongSections}
+use Rattle.book_file.proofs.header.are_misplaced.Statement.{statement}
+use Rattle.book_file.proofs.header.are_misplaced.Tie as tie
+
+categories-requires : tie.Need-categories-requires
+categories-requires c κs = search needs
+
+entries-requires : tie.Need-entries-requires
+entries-requires c κs = search needs
+
+elements-requires : tie.Need-elements-requires
+elements-requires c κs = search needs
+
+is-misplaced-requires : tie.Need-is-misplaced-requires
+is-misplaced-requires c κs = search needs
+
+end-requires : tie.Need-end-requires
+end-requires c κs = search needs
+
+is-misplaced-requires-2 : tie.Need-is-misplaced-requires-2
+is-misplaced-requires-2 c κs = search needs
+
+end-requires-2 : tie.Need-end-requires-2
+end-requires-2 c κs = search needs
+
+is-misplaced-requires-3 : tie.Need-is-misplaced-requires-3
+is-misplaced-requires-3 c κs = search needs
+
+returns : tie.Need-returns
+unfolding wrongSections
+returns c =
+    let end2 = c .before in
+    let second = end2 .before in
+    let end1 = second .before in
+    let first = end1 .before in
+    let elements = first .before in
+    let entries = elements .before in
+    rw (
+      c .is-misplaced3 .ensures,
+      end2 .end2 .ensures,
+      second .is-misplaced2 .ensures,
+      end1 .end .ensures,
+      first .is-misplaced .ensures,
+      elements .elements .ensures .0,
+      entries .entries .ensures .0,
+      entries .before .categories .ensures .0,
+    )
+
+pub are-misplaced-spec : {M : Type 1} → statement M
+are-misplaced-spec =
+    tie.close
+    (tie.spec
+    categories-requires
+    entries-requires
+    elements-requires
+    is-misplaced-requires
+    end-requires
+    is-misplaced-requires-2
+    end-requires-2
+    is-misplaced-requires-3
+    returns)

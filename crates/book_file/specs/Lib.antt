@@ -1,0 +1,5 @@
+pub mod Bytes
+pub mod File
+pub mod Answers
+pub mod Loading
+pub mod Conserving
