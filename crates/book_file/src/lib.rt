@@ -12,5 +12,4 @@ pub use answers::Numbers;
 pub use answers::Place;
 pub use answers::numbers_of;
 pub use loading::load;
-pub use numbers::u32_at;
 pub use numbers::u64_at;
