@@ -15,11 +15,10 @@ import time
 import file_parts
 import player
 from file_writer import (
-    EXAMPLE, MOST_BYTES, cut_to, file_of, load_records, with_header)
+    CHUNK, EXAMPLE, MOST_BYTES, cut_to, file_of, load_records, with_header)
 
 LARGEST = 2 ** 64 - 1
 SECONDS = 60  # the longest that the program may take for one input
-CHUNK = 1024  # how many records the program reads at a time
 
 
 def record(operation, *arguments):
@@ -240,7 +239,7 @@ def endings():
         add("operation %d first" % number, record(number, 1, 1) + THREE)
         add("operation %d after a division" % number,
             THREE + record(number) + THREE)
-    # 16 is none yet; 15 takes the next record.
+    # 16 is none; 15 takes the next record.
     add("operation 16 after a book", BOOK + record(16, 1) + BOOK)
     add("operation 15 after a book", BOOK + record(15, 1) + BOOK)
     add("a second closing", BOOK + record(player.CLOSE, 1) + dump(0, 47))

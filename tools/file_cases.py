@@ -16,7 +16,7 @@ from file_parts import (
     CATEGORIES, ELEMENTS, ENTRIES, FREIGHT, PARTS, WHOLE, changed,
     full_categories, full_elements, full_entries, full_parts)
 from file_writer import (
-    EXAMPLE, EXAMPLE_PARTS, MOST_BYTES, cut_to, file_of, with_header)
+    CHUNK, EXAMPLE, EXAMPLE_PARTS, MOST_BYTES, cut_to, file_of, with_header)
 from random_files import changed_byte, changed_header, random_file
 
 SEEDS = (32, 48, 216)
@@ -274,11 +274,11 @@ def random_files(cases, rng):
     cases.dump_all()
 
 
-def straddling(spans, records):
+def straddling(spans):
     """How many loads of these spans have their records on both sides of a
-    multiple of so many records."""
+    chunk's end."""
     return sum(1 for (first, _), (last, _) in spans
-               if first // records != (last - 1) // records)
+               if first // CHUNK != (last - 1) // CHUNK)
 
 
 def add(cases):

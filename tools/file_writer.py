@@ -124,6 +124,10 @@ def stop_of(data, table, record):
 
 # The records of a load.
 
+# How many records the program reads at a time.
+CHUNK = 1024
+
+
 def load_records(data):
     """The records of a load: the operation, then the bytes."""
     first = player.RECORD.pack(player.LOAD, len(data), 0, 0, 0, 0, 0, 0)

@@ -16,15 +16,12 @@ import book_cases
 import calculation
 import file_cases
 import player
-from file_writer import load_records
+from file_writer import EXAMPLE, load_records
 
 SEED = 14083
 ROOT = os.path.dirname(os.path.dirname(os.path.abspath(__file__)))
 STDIN = os.path.join("crates", "replay", "stdin")
 STDOUT = os.path.join("crates", "replay", "stdout")
-
-# The program reads so many records at a time.
-CHUNK = 1024
 
 LIMIT = 10 ** 18
 WORD = 2 ** 64
@@ -42,15 +39,16 @@ class Cases:
     def record(self, operation, *arguments):
         """Adds a record: the numbers that it prints, or None."""
         words = (operation,) + arguments + (0,) * (7 - len(arguments))
-        self.records.append(player.RECORD.pack(*words))
-        return self.player.play(self.records[-1])
+        return self.add(player.RECORD.pack(*words))
+
+    def add(self, record):
+        """The same of the record's bytes."""
+        self.records.append(record)
+        return self.player.play(record)
 
     def load(self, data):
         """Adds the records of a load: the numbers that it prints."""
-        for record in load_records(data):
-            self.records.append(record)
-            numbers = self.player.play(record)
-        return numbers
+        return [self.add(record) for record in load_records(data)][-1]
 
     def division(self, pool, weights, share_count=None):
         """Appends the weights, then divides; equal lengths by default."""
@@ -402,15 +400,11 @@ def dividing_rule(cases):
 
 
 def ending(cases):
-    """A bad record; nothing is printed for it but its number, and nothing
-    for the records after it."""
-    cases.record(player.APPEND_WEIGHT, 1)
-    cases.record(99)
-    cases.record(player.DIVIDE, 10, 1)
-    reckoned_by_hand(cases)
-    cases.record(player.FRESH)
-    cases.record(player.DUMP, 0, 4)
-    cases.record(99)
+    """The input ends within a file: nothing is printed of it but the number
+    of the record that does not come."""
+    for record in load_records(EXAMPLE)[:-1]:
+        cases.add(record)
+    cases.player.end()
 
 
 def make():
@@ -418,7 +412,7 @@ def make():
     cases = Cases()
     dividing_rule(cases)
     of_book = book_cases.add(cases)
-    if file_cases.straddling(of_book.loaded, CHUNK) < 10:
+    if file_cases.straddling(of_book.loaded) < 10:
         raise SystemExit("few loads on both sides of a chunk's end")
     ending(cases)
     return cases, of_book
@@ -481,7 +475,7 @@ def main(arguments):
             of_book.loads.items(), key=lambda item: (item[0][0], str(item))):
         print("%6d loads give %d%s" % (count, number, place_of_stop(*stop)))
     print("%6d loads on both sides of a chunk's end"
-          % file_cases.straddling(of_book.loaded, CHUNK))
+          % file_cases.straddling(of_book.loaded))
     return 0
 
 

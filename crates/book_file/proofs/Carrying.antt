@@ -18,7 +18,7 @@ use Rattle.book_file.specs.declared.answers.Load.the-variants.{Loaded, S
 use Rattle.book_file.specs.declared.answers.Place.{Place}
 use Rattle.book_file.specs.declared.answers.Place.the-variants.{Header, Category, Entry, Element, Closing}
 use Rattle.book_file.specs.Answers.{numbersOf, answerAt}
-use Rattle.book_file.specs.Loading.{Task, Loading, loadingOf, taskRefusal, made, unlessStopped, next, carriedOn}
+use Rattle.book_file.specs.Loading.{Task, Loading, loadingOf, taskRefusal, made, unlessStopped, nextTask, carriedOn}
 
 -- the refusal number of a stop
 pub stop-refusal : (n : ℕ) (place : Place) → numbersOf (Stopped n place) .refusal ≡ n
@@ -63,7 +63,7 @@ call-made ws task whole gave is = rw (is, gave .0, gave .1) (sym (made-call ws t
 pub carried-append : (loading : Loading) (first rest : List Task)
     → carriedOn loading (first ++ rest) ≡ carriedOn (carriedOn loading first) rest
 carried-append loading [] rest = refl
-carried-append loading (task ∷ first) rest = carried-append (next loading task) first rest
+carried-append loading (task ∷ first) rest = carried-append (nextTask loading task) first rest
 
 -- a load that is stopped stays so
 pub carried-stopped : (n : ℕ) (place : Place) (ws : List ℕ) (tasks : List Task)
@@ -82,7 +82,7 @@ sound-made ws task fine =
 
 pub carried-sound : (loading : Loading) (tasks : List Task) → sound (loading .book) ≡ true → sound (carriedOn loading tasks .book) ≡ true
 carried-sound loading [] fine = fine
-carried-sound loading (task ∷ tasks) fine = carried-sound (next loading task) tasks (of-answer (loading .answer))
+carried-sound loading (task ∷ tasks) fine = carried-sound (nextTask loading task) tasks (of-answer (loading .answer))
   where
     of-answer : (answer : Load) → sound (unlessStopped answer (made (loading .book) task) loading .book) ≡ true
     of-answer Loaded = sound-made (loading .book) task fine

@@ -17,16 +17,16 @@ pub number-past : (width : ℕ) (bytes : List ℕ) (position : ℕ) → length b
 unfolding numberAt
 number-past width bytes position h = rw (lt-leb (position + width) (length bytes) h)
 
-next : (position k : ℕ) → position + k + 1 ≡ position + (k + 1)
-next position k = omega arith
+one-more : (position k : ℕ) → position + k + 1 ≡ position + (k + 1)
+one-more position k = omega arith
 
 -- four bytes, and eight as two fours
 pub four-bytes : (bytes : List ℕ) (position : ℕ)
     → getD bytes position 0 + 256 * getD bytes (position + 1) 0 + 65_536 * getD bytes (position + 2) 0 + 16_777_216 * getD bytes (position + 3) 0
     ≡ littleEndian 4 bytes position
-four-bytes bytes position = rw (next position 1, next position 2) (omega arith)
+four-bytes bytes position = rw (one-more position 1, one-more position 2) (omega arith)
 
 pub eight-bytes : (bytes : List ℕ) (position : ℕ)
     → littleEndian 4 bytes position + 4_294_967_296 * littleEndian 4 bytes (position + 4) ≡ littleEndian 8 bytes position
 eight-bytes bytes position =
-    rw (next position 1, next position 2, next position 3, next position 4, next position 5, next position 6) (omega arith)
+    rw (one-more position 1, one-more position 2, one-more position 3, one-more position 4, one-more position 5, one-more position 6) (omega arith)

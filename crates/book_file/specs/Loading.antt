@@ -61,12 +61,16 @@ enrolling number r =
     }
 
 -- "enrols or quotes": category 0 is that of a quote
-abbrev pub joining : ℕ → ElementRecord → Task
-joining number r = cond (eqb (r .category) 0) (quoting number r) (enrolling number r)
+abbrev pub enrollingOrQuoting : ℕ → ElementRecord → Task
+enrollingOrQuoting number r = cond (eqb (r .category) 0) (quoting number r) (enrolling number r)
 
 -- a closing's record "is the category's number"
 abbrev pub closing : ℕ → Task
 closing number = record { place = Closing number; broken = false; call = Close number }
+
+-- "closes those flagged"
+abbrev pub isFlagged : CategoryRecord → Bool
+isFlagged r = eqb (r .flag) 1
 
 -- the section of a table; a closing is asked for by a category's flag
 abbrev pub sectionOf : List ℕ → Table → Section
@@ -79,15 +83,15 @@ sectionOf file Closings = categoriesIn file
 abbrev pub taskAt : List ℕ → Table → ℕ → Task
 taskAt file Categories place = opening (place + 1) (categoryRecord file (recordAt (categoriesIn file) place))
 taskAt file Entries place = posting (place + 1) (entryRecord file (recordAt (entriesIn file) place))
-taskAt file Elements place = joining (place + 1) (elementRecord file (recordAt (elementsIn file) place))
+taskAt file Elements place = enrollingOrQuoting (place + 1) (elementRecord file (recordAt (elementsIn file) place))
 taskAt file Closings place = closing (place + 1)
 
--- whether it is asked for: "closes those flagged"
+-- whether it is asked for: of the closings, those of flagged categories
 abbrev pub isAsked : List ℕ → Table → ℕ → Bool
 isAsked file Categories place = true
 isAsked file Entries place = true
 isAsked file Elements place = true
-isAsked file Closings place = eqb (categoryRecord file (recordAt (categoriesIn file) place) .flag) 1
+isAsked file Closings place = isFlagged (categoryRecord file (recordAt (categoriesIn file) place))
 
 -- the tasks of a table
 unfoldable pub tasksIn : List ℕ → Table → List Task
@@ -117,7 +121,10 @@ made ws task =
     (answerAt (taskRefusal ws task) (task .place))
     (accepted (taskRefusal ws task) (step ws (task .call) .book) ws)
 
--- the task of a place, where it is asked for
+-- the closing of a category, where it is flagged, and the task of any place, where it is asked for
+abbrev pub madeClosing : List ℕ → ℕ → CategoryRecord → Loading
+madeClosing ws number r = cond (isFlagged r) (made ws (closing number)) (loadingOf Loaded ws)
+
 abbrev pub madeAt : List ℕ → List ℕ → Table → ℕ → Loading
 madeAt ws file table place = cond (isAsked file table place) (made ws (taskAt file table place)) (loadingOf Loaded ws)
 
@@ -126,12 +133,12 @@ abbrev pub unlessStopped : Load → Loading → Loading → Loading
 unlessStopped Loaded new old = new
 unlessStopped (Stopped refusal place) new old = old
 
-abbrev pub next : Loading → Task → Loading
-next loading task = unlessStopped (loading .answer) (made (loading .book) task) loading
+abbrev pub nextTask : Loading → Task → Loading
+nextTask loading task = unlessStopped (loading .answer) (made (loading .book) task) loading
 
 abbrev pub carriedOn : Loading → List Task → Loading
 carriedOn loading [] = loading
-carriedOn loading (task ∷ tasks) = carriedOn (next loading task) tasks
+carriedOn loading (task ∷ tasks) = carriedOn (nextTask loading task) tasks
 
 -- "Loading checks the slice length of ground 1, then 11, 12, then makes a fresh book", and makes the calls of the file;
 -- "1, 11 and 12 leave the book untouched"

@@ -24,7 +24,7 @@ pub struct Numbers {
     // 0 is the header, 1 categories, 2 entries, 3 elements, 4 closings.
     pub table: u64,
     // The record's number; a closing's is that of the category.
-    pub number: u64,
+    pub record: u64,
 }
 
 // The numbers of an answer.
@@ -35,7 +35,7 @@ pub fn numbers_of(answer: Load) -> Numbers
         Load::Loaded => Numbers {
             refusal: 0,
             table: 0,
-            number: 0,
+            record: 0,
         },
         Load::Stopped(refusal, place) => place_numbers(refusal, place),
     }
@@ -49,27 +49,27 @@ fn place_numbers(refusal: u64, place: Place) -> Numbers
         Place::Header => Numbers {
             refusal,
             table: 0,
-            number: 0,
+            record: 0,
         },
-        Place::Category(number) => Numbers {
+        Place::Category(record) => Numbers {
             refusal,
             table: 1,
-            number,
+            record,
         },
-        Place::Entry(number) => Numbers {
+        Place::Entry(record) => Numbers {
             refusal,
             table: 2,
-            number,
+            record,
         },
-        Place::Element(number) => Numbers {
+        Place::Element(record) => Numbers {
             refusal,
             table: 3,
-            number,
+            record,
         },
-        Place::Closing(number) => Numbers {
+        Place::Closing(record) => Numbers {
             refusal,
             table: 4,
-            number,
+            record,
         },
     }
 }

@@ -33,6 +33,6 @@ fn load_records(book: &mut [u64], file: &[u8]) -> Load
 {
     let opened = tables::load_table(book, file, Table::Categories, Load::Loaded);
     let posted = tables::load_table(book, file, Table::Entries, opened);
-    let joined = tables::load_table(book, file, Table::Elements, posted);
-    tables::load_table(book, file, Table::Closings, joined)
+    let enrolled = tables::load_table(book, file, Table::Elements, posted);
+    tables::load_table(book, file, Table::Closings, enrolled)
 }

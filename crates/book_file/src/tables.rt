@@ -1,11 +1,10 @@
 // The tables of a file, and the calls that their records ask for.
-ghost use mathlib.Core.Bool.{true, cond};
+ghost use mathlib.Core.Bool.{true};
 ghost use mathlib.Core.Path.{_≡_};
 ghost use Prim.Native.Nat.{_+_, _<_};
-ghost use lib.Dec.{eqb};
 ghost use Rattle.book_words.specs.Soundness.{sound};
 ghost use Rattle.book_file.specs.File.{Within32};
-ghost use Rattle.book_file.specs.Loading.{sectionOf, loadingOf, opening, posting, quoting, enrolling, joining, closing, made, madeAt, tasksIn, carriedOn};
+ghost use Rattle.book_file.specs.Loading.{sectionOf, loadingOf, opening, posting, quoting, enrolling, enrollingOrQuoting, made, madeClosing, madeAt, tasksIn, carriedOn};
 use crate::answers;
 use crate::answers::Load;
 use crate::answers::Place;
@@ -59,7 +58,7 @@ fn load_record(book: &mut [u64], file: &[u8], table: Table, section: Section, pl
     match table {
         Table::Categories => open(book, number, records::category(file, at)),
         Table::Entries => post(book, number, records::entry(file, at)),
-        Table::Elements => join(book, number, records::element(file, at)),
+        Table::Elements => enrol_or_quote(book, number, records::element(file, at)),
         Table::Closings => close(book, number, records::category(file, at)),
     }
 }
@@ -94,9 +93,9 @@ fn post(book: &mut [u64], number: u64, entry: EntryRecord) -> Load
 }
 
 // Enrols an element or, with category 0, quotes one.
-fn join(book: &mut [u64], number: u64, element: ElementRecord) -> Load
+fn enrol_or_quote(book: &mut [u64], number: u64, element: ElementRecord) -> Load
     requires { ⌜ sound (now book) ≡ true ⌝ }
-    ensures { λ r. ⌜ loadingOf r (now (book .exit)) ≡ made (now (book .entry)) (joining number element) ⌝ }
+    ensures { λ r. ⌜ loadingOf r (now (book .exit)) ≡ made (now (book .entry)) (enrollingOrQuoting number element) ⌝ }
 {
     if element.category == 0 {
         return quote(book, number, element);
@@ -146,8 +145,7 @@ fn enrol(book: &mut [u64], number: u64, element: ElementRecord) -> Load
 // Closes a category that is flagged.
 fn close(book: &mut [u64], number: u64, category: CategoryRecord) -> Load
     requires { ⌜ sound (now book) ≡ true ⌝ }
-    ensures { λ r. ⌜ loadingOf r (now (book .exit))
-        ≡ cond (eqb (category .flag) 1) (made (now (book .entry)) (closing number)) (loadingOf Load.Loaded (now (book .entry))) ⌝ }
+    ensures { λ r. ⌜ loadingOf r (now (book .exit)) ≡ madeClosing (now (book .entry)) number category ⌝ }
 {
     if category.flag != 1 {
         return Load::Loaded;

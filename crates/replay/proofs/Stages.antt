@@ -1,18 +1,20 @@
 -- What the records do, from the tests that the code makes. Assumes nothing.
 use Prim.Native.Nat.{ℕ, suc, _+_, _-_, _<_, _≤_, min}
 use native.Mathlib.Omega.{arith}
-use mathlib.Core.Bool.{true, false}
-use mathlib.Core.List.{List, _++_, append-assoc}
-use mathlib.Core.Path.{_≡_, ap, sym, _∙_}
+use mathlib.Core.Bool.{Bool, true, false, cond}
+use mathlib.Core.List.{List, [], _++_, append-assoc}
+use mathlib.Core.Path.{_≡_, refl, ap, sym, _∙_}
 use borrow.Author.Tests.{eq-eqb, ne-eqb, le-leb, lt-leb}
+use lib.Dec.{eqb, ltb, leb}
 use lib.ListN.{length, take, drop, length-drop}
 use lib.Seq.{length-take-le, take-length, take-append-add, take-append-seam}
 use Rattle.replay.specs.declared.files.Progress.{Progress}
 use Rattle.replay.specs.declared.output.Output.{Output}
 use Rattle.replay.specs.declared.records.Words.{Words}
+use Rattle.replay.specs.Words.{wordsOf}
 use Rattle.replay.specs.Answers.{loanOf, loadCall}
-use Rattle.replay.specs.Replay.{Run, bad, performed, stopped}
-use Rattle.replay.specs.Stages.{fileRoom, Stage, stageOf, idle, withRun, finished, begun, taken, operated, handled, replayed, recordsIn}
+use Rattle.replay.specs.Replay.{Run, performed}
+use Rattle.replay.specs.Stages.{recordBytes, fileRoom, Stage, stageOf, withRun, withFile, counted, badStage, stoppedStage, finished, begun, taken, operated, handled, replayed, recordsIn}
 use Rattle.replay.proofs.Runs.{take-min, call-returned}
 
 -- a file of `come` bytes is loaded into the first `n` words of the array, as many as are lent
@@ -24,12 +26,13 @@ pub load-finished : (come n : ℕ) (weights array file buffer book buffer′ : L
       state = record { count = progress .state .count; lent = progress .state .lent; good = progress .state .good; output = after };
       come = 0;
       missing = 0;
+      passed = progress .passed;
     })
     ≡ finished (stageOf weights array file buffer progress)
 unfolding finished
 load-finished come n weights array file buffer book buffer′ progress after none come-is n-is gave =
     rw (eq-eqb (progress .missing) 0 (omega arith))
-    (ap idle
+    (ap (λ (run : Run). record { run = run; file = []; missing = 0; passed = progress .passed })
     (call-returned (loadCall (take (progress .come) file)) n weights array buffer book buffer′ (progress .state) after n-is (rw (come-is, take-min) at gave)))
 
 -- a part of a list whose first numbers were copied from another
@@ -47,9 +50,9 @@ bytes-taken come count file bytes rest in-file in-bytes =
     (ap (λ (k : ℕ). take k (take count bytes ++ rest)) (sym (length-take-le count bytes in-bytes)) ∙ take-append-seam (take count bytes) rest)
 
 module _ (bytes file : List ℕ) (run : Run) (progress : Progress) (come count : ℕ) (size : length file ≡ fileRoom)
-    (come-is : come ≡ min (progress .come) (length file)) (count-is : count ≡ min (progress .missing) 64) where
+    (come-is : come ≡ min (progress .come) (length file)) (count-is : count ≡ min (progress .missing) recordBytes) where
   abbrev pub stage : Stage
-  stage = record { run = run; file = take (progress .come) file; missing = progress .missing }
+  stage = record { run = run; file = take (progress .come) file; missing = progress .missing; passed = progress .passed }
 
   so-far : take come file ≡ take (progress .come) file
   so-far = rw (come-is, take-min)
@@ -57,23 +60,23 @@ module _ (bytes file : List ℕ) (run : Run) (progress : Progress) (come count :
   come-length : length (take (progress .come) file) ≡ come
   come-length = ap length (sym so-far) ∙ length-take-le come file (omega arith)
 
-  pub take-good : (rest : List ℕ) → count ≤ length file - come → 64 ≤ length bytes
-      → finished (record { run = run; file = take (come + count) (take come file ++ (take count bytes ++ rest)); missing = progress .missing - count })
+  pub take-good : (rest : List ℕ) → count ≤ length file - come → recordBytes ≤ length bytes
+      → finished (withFile (take (come + count) (take come file ++ (take count bytes ++ rest))) (progress .missing - count) stage)
       ≡ taken bytes stage
   unfolding taken
   take-good rest room enough =
-      let fits : length (take (progress .come) file) + min (progress .missing) 64 ≤ fileRoom = omega (arith, come-length, count-is, come-is, size, room) in
+      let fits : length (take (progress .come) file) + min (progress .missing) recordBytes ≤ fileRoom = omega (arith, come-length, count-is, come-is, size, room) in
       let within : count ≤ length bytes = omega arith in
       rw (le-leb _ fileRoom fits, bytes-taken come count file bytes rest (omega arith) within, so-far, count-is)
 
-  pub take-full : length file - come < count → withRun (bad run) (record { run = run; file = take come file; missing = progress .missing }) ≡ taken bytes stage
+  pub take-full : length file - come < count → badStage stage ≡ taken bytes stage
   unfolding taken
   take-full full =
-      let over : fileRoom < length (take (progress .come) file) + min (progress .missing) 64 = omega (arith, come-length, count-is, come-is, size, full) in
-      rw (lt-leb _ fileRoom over, so-far)
+      let over : fileRoom < length (take (progress .come) file) + min (progress .missing) recordBytes = omega (arith, come-length, count-is, come-is, size, full) in
+      rw (lt-leb _ fileRoom over)
 
 -- an operation that is a load, and any other
-pub operate-load : (words : Words) (stage : Stage) → words .operation ≡ 15 → begun (words .first) (stage .run) ≡ operated words stage
+pub operate-load : (words : Words) (stage : Stage) → words .operation ≡ 15 → begun (words .first) stage ≡ operated words stage
 unfolding operated
 operate-load words stage e = rw (eq-eqb (words .operation) 15 e)
 
@@ -81,13 +84,42 @@ pub operate-other : (words : Words) (stage : Stage) → (words .operation ≡ 15
 unfolding operated
 operate-other words stage ne = rw (ne-eqb (words .operation) 15 ne)
 
+-- records are counted where they are read, and nowhere else
+either-passed : (test : Bool) (n : ℕ) (one other : Stage) → one .passed ≡ n → other .passed ≡ n → cond test one other .passed ≡ n
+either-passed true n one other of-one of-other = of-one
+either-passed false n one other of-one of-other = of-other
+
+finished-passed : (stage : Stage) → finished stage .passed ≡ stage .passed
+unfolding finished
+finished-passed stage = either-passed (eqb (stage .missing) 0) (stage .passed) _ stage refl refl
+
+pub handled-passed : (bytes : List ℕ) (stage : Stage) → handled bytes stage .passed ≡ stage .passed
+unfolding handled taken operated begun
+handled-passed bytes stage =
+    let n = stage .passed in
+    let words = wordsOf bytes in
+    let count = min (stage .missing) recordBytes in
+    let begins =
+    either-passed (leb (words .first) fileRoom) n (finished (withFile [] (words .first) stage)) (badStage stage)
+    (finished-passed (withFile [] (words .first) stage))
+    refl in
+    let more = withFile (stage .file ++ take count bytes) (stage .missing - count) stage in
+    let takes = either-passed (leb (length (stage .file) + count) fileRoom) n (finished more) (badStage stage) (finished-passed more) refl in
+    let does = either-passed (eqb (words .operation) 15) n (begun (words .first) stage) (withRun (performed words (stage .run)) stage) begins refl in
+    either-passed (ltb (length bytes) recordBytes) n (badStage stage) _ refl
+    (either-passed (ltb 0 (stage .missing)) n (taken bytes stage) (operated words stage) takes does)
+
 -- a turn of the loop over the records of a chunk, after which the stage is `next`
-module _ (passed : ℕ) (bytes : List ℕ) (stage next : Stage) (more : 0 < length bytes) (done : next ≡ handled bytes stage) where
-  one-record : recordsIn bytes ≡ suc (recordsIn (drop 64 bytes))
+module _ (bytes : List ℕ) (stage next : Stage) (more : 0 < length bytes) (done : next ≡ handled bytes (counted stage)) where
+  one-record : recordsIn bytes ≡ suc (recordsIn (drop recordBytes bytes))
   one-record = rw length-drop (omega arith)
 
-  pub replay-on : next .run .good ≡ true → replayed (passed + 1) (drop 64 bytes) next ≡ replayed passed bytes stage
+  pub replay-on : next .run .good ≡ true → replayed (drop recordBytes bytes) next ≡ replayed bytes stage
   replay-on good = rw (one-record, ← done, good)
 
-  pub replay-stop : next .run .good ≡ false → withRun (stopped (passed + 1) (next .run)) next ≡ replayed passed bytes stage
+  pub replay-stop : next .run .good ≡ false → stoppedStage next ≡ replayed bytes stage
   replay-stop ended = rw (one-record, ← done, ended)
+
+  -- and one record more is counted
+  pub one-passed : next .passed ≡ stage .passed + 1
+  one-passed = ap (λ (s : Stage). s .passed) done ∙ handled-passed bytes (counted stage)

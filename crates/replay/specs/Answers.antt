@@ -11,8 +11,7 @@ use Rattle.book.specs.declared.replies.Statement.{Statement}
 use Rattle.book.specs.Calls.{freshRefusal, freshBook, openReply, openBook, postReply, postBook, strikeRefusal, strikeBook, enrolReply, enrolBook, quoteReply, quoteBook}
 use Rattle.book.specs.Statements.{statementReply}
 use Rattle.book_file.specs.declared.answers.Numbers.{Numbers}
-use Rattle.book_file.specs.Answers.{numbersOf}
-use Rattle.book_file.specs.Loading.{loadAnswer, loadBook}
+use Rattle.book_file.specs.Loading.{loadNumbers, loadBook}
 use Rattle.replay.specs.declared.output.Output.{Output}
 use Rattle.replay.specs.declared.records.Words.{Words}
 use Rattle.replay.specs.Text.{line}
@@ -49,7 +48,7 @@ statementLine reply =
 
 -- the line of a load's refusal number, table and record
 abbrev pub loadLine : Numbers → List ℕ
-loadLine numbers = line (numbers .refusal) (numbers .table ∷ numbers .number ∷ [])
+loadLine numbers = line (numbers .refusal) (numbers .table ∷ numbers .«record» ∷ [])
 
 abbrev pub freshCall : Loan → Loan
 freshCall loan = leaving (refusalLine (freshRefusal (loan .book))) (freshBook (loan .book)) loan
@@ -113,4 +112,4 @@ answered words loan =
 -- a load of a file
 abbrev pub loadCall : List ℕ → Loan → Loan
 loadCall file loan =
-    leaving (loadLine (numbersOf (loadAnswer (loan .book) file))) (loadBook (loan .book) file) loan
+    leaving (loadLine (loadNumbers (loan .book) file)) (loadBook (loan .book) file) loan

@@ -1,7 +1,8 @@
 // Reads a list of calls from standard input, to its end, and prints each answer.
 //
-// A call is a record of 64 bytes: eight words, the operation and seven arguments. The line of a bad
-// record, `bad record N`, is the last.
+// A call is a record of 64 bytes: eight words, the operation and seven arguments. After operation 15 the records
+// are the bytes of a file, the last padded to a whole record. The line of a bad record, `bad record N`, is the last;
+// so is that of a record that does not come, where the input ends within a file.
 mod array;
 mod calls;
 mod dividing;
@@ -13,7 +14,7 @@ mod state;
 
 ghost use mathlib.Core.Path.{_≡_};
 ghost use mathlib.Core.Bool.{true, cond, _&&_};
-ghost use Prim.Native.Nat.{_+_, _-_, _<_, _^_};
+ghost use Prim.Native.Nat.{_+_, _-_, _≤_, _<_, _^_};
 ghost use lib.ListN.{length};
 ghost use Rattle.replay.specs.Stages.{stageOf, replayed};
 use array::Array;
@@ -24,10 +25,8 @@ use libc::STDIN_FILENO;
 use output::Buffer;
 use state::State;
 
-// Does what the records of a chunk ask, up to a bad one or a write that failed. `passed` records came
-// before the chunk.
+// Does what the records of a chunk ask, up to a bad one or a write that failed.
 fn run(
-    passed: u64,
     chunk: &[u8],
     weights: &mut Weights,
     array: &mut Array,
@@ -35,20 +34,20 @@ fn run(
     buffer: &mut Buffer,
     start: Progress,
 ) -> Progress
-    requires { ⌜ passed + length (now chunk) < 2 ^ 64 ⌝ }
+    requires { ⌜ start .passed + length (now chunk) < 2 ^ 64 ⌝ }
     ensures { λ r. ⌜ (r .state .output .ok ≡ true
         → stageOf (now (weights .exit)) (now (array .exit)) (now (file .exit)) (now (buffer .exit)) r
-        ≡ replayed passed (now (chunk .entry))
+        ≡ replayed (now (chunk .entry))
         (stageOf (now (weights .entry)) (now (array .entry)) (now (file .entry)) (now (buffer .entry)) start)) ⌝ }
+    ensures { λ r. ⌜ r .passed ≤ start .passed + length (now (chunk .entry)) ⌝ }
 {
     let mut progress = start;
-    let mut number = passed;
     let mut at = 0;
     while at < chunk.len() {
-        number += 1;
+        progress.passed = progress.passed + 1;
         progress = operations::handle(&chunk[at..], weights, array, file, buffer, progress);
         if !progress.state.good {
-            return files::stop(number, buffer, progress);
+            return files::stop(buffer, progress);
         }
         if !progress.state.output.ok {
             return progress;
@@ -79,12 +78,10 @@ fn main() {
     let mut array = [0u64; array::LENGTH];
     let mut file = [0u8; files::ROOM];
     let mut progress = files::first();
-    let mut passed = 0;
     let mut turns = u64::MAX / 65536;
     while turns > 0 {
         let got = io::read_full(STDIN_FILENO, &mut chunk);
         progress = run(
-            passed,
             &chunk[..got],
             &mut weights,
             &mut array,
@@ -92,9 +89,8 @@ fn main() {
             &mut buffer,
             progress,
         );
-        passed += (got / records::SIZE) as u64;
         turns = turns_left(turns, got == chunk.len(), progress.state);
     }
-    let state = files::end(passed + 1, &mut buffer, progress);
+    let state = files::end(&mut buffer, progress);
     output::flush(&buffer, state.output);
 }

@@ -29,28 +29,20 @@ pub fn handle(
         ≡ handled (now (bytes .entry))
         (stageOf (now (weights .entry)) (now (array .entry)) (now (file .entry)) (now (buffer .entry)) progress) ⌝ }
 {
-    let state = progress.state;
-    let come = progress.come;
-    let missing = progress.missing;
     if bytes.len() < records::SIZE {
-        return Progress {
-            state: state::bad(state),
-            come,
-            missing,
-        };
+        return files::bad(progress);
     }
-    if missing > 0 {
+    if progress.missing > 0 {
         return files::take(bytes, array, file, buffer, progress);
     }
     let words = records::read(bytes);
     if words.operation == 15 {
-        return files::begin(words.first, array, file, buffer, state);
+        return files::begin(words.first, array, file, buffer, progress);
     }
-    Progress {
-        state: perform(words, weights, array, buffer, state),
-        come,
-        missing,
-    }
+    let state = progress.state;
+    let mut after = progress;
+    after.state = perform(words, weights, array, buffer, state);
+    after
 }
 
 // Does what the words of a record ask.

@@ -1,18 +1,21 @@
 -- `replay::main` is safe and ends. The loop's invariant: the chunk keeps its size, and the records of the turns that are
 -- left can be numbered, and one more. Assumes nothing.
 use Prim.Native.Nat.{_+_, _*_, _<_, _^_}
-use mathlib.Core.Path.{_≡_}
+use mathlib.Core.List.{[]}
+use mathlib.Core.Path.{_≡_, ap}
+use native.Mathlib.Omega.{arith}
 use lib.ListN.{length}
+use Rattle.replay.specs.Stages.{Stage}
 use borrow.Author.Needs.{needs}
 use Rattle.replay.proofs.main.Statement.{statement}
 use Rattle.replay.proofs.main.Tie as tie
 
 abbrev Inv-loop : tie.InvT-loop
-Inv-loop chunk₀ buffer₀ weights₀ array₀ file₀ progress₀ passed₀ turns₀ chunk buffer weights array file progress passed turns =
-    (length chunk ≡ 65_536) × (passed + 65_536 * turns + 1 < 2 ^ 64)
+Inv-loop chunk₀ buffer₀ weights₀ array₀ file₀ progress₀ turns₀ chunk buffer weights array file progress turns =
+    (length chunk ≡ 65_536) × (progress .passed + 65_536 * turns + 1 < 2 ^ 64)
 
 abbrev μ-loop : tie.MeasureT-loop
-μ-loop chunk₀ buffer₀ weights₀ array₀ file₀ progress₀ passed₀ turns₀ chunk buffer weights array file progress passed turns =
+μ-loop chunk₀ buffer₀ weights₀ array₀ file₀ progress₀ turns₀ chunk buffer weights array file progress turns =
     turns
 
 large-buffer-requires : tie.Need-large-buffer-requires Inv-loop μ-loop
@@ -25,7 +28,7 @@ first-requires : tie.Need-first-requires Inv-loop μ-loop
 first-requires c κs = search needs
 
 loop-holds : tie.Need-loop-holds Inv-loop μ-loop
-loop-holds c = search needs
+loop-holds c = (search needs, omega (arith, ap (λ (s : Stage). s .passed) (c .first .ensures [] [] [])))
 
 slice-aggregate-read-full : tie.Need-slice-aggregate-read-full Inv-loop μ-loop
 slice-aggregate-read-full c = search needs
@@ -42,9 +45,6 @@ slice-aggregate-run c = search needs
 run-requires : tie.Need-run-requires Inv-loop μ-loop
 run-requires c κs = search needs
 
-add-passed : tie.Need-add-passed Inv-loop μ-loop
-add-passed c = search needs
-
 turns-left-requires : tie.Need-turns-left-requires Inv-loop μ-loop
 turns-left-requires c κs = search needs
 
@@ -53,9 +53,6 @@ loop-less c = search needs
 
 loop-again : tie.Need-loop-again Inv-loop μ-loop
 loop-again c = search needs
-
-add-end : tie.Need-add-end Inv-loop μ-loop
-add-end c = search needs
 
 end-requires : tie.Need-end-requires Inv-loop μ-loop
 end-requires c κs = search needs
@@ -81,11 +78,9 @@ main-spec =
     array-share-prefix-chunk
     slice-aggregate-run
     run-requires
-    add-passed
     turns-left-requires
     loop-less
     loop-again
-    add-end
     end-requires
     flush-requires
     returns)

@@ -1,17 +1,14 @@
 -- `book_file::tables::load_record` meets its contract: by cases on the table, at the position of the record. Assumes nothing.
-use mathlib.Core.Bool.{cond}
 use mathlib.Core.Path.{_≡_, _∙_, ap}
 use Prim.Native.Nat.{_+_}
-use lib.Dec.{eqb}
 use borrow.Author.Needs.{needs}
-use Rattle.book_file.specs.declared.answers.Load.the-variants.{Loaded}
 use Rattle.book_file.specs.declared.header.Section.{Section}
 use Rattle.book_file.specs.declared.records.CategoryRecord.{CategoryRecord}
 use Rattle.book_file.specs.declared.records.EntryRecord.{EntryRecord}
 use Rattle.book_file.specs.declared.records.ElementRecord.{ElementRecord}
 use Rattle.book_file.specs.declared.tables.Table.{Table}
 use Rattle.book_file.specs.File.{recordAt, categoryRecord, entryRecord, elementRecord}
-use Rattle.book_file.specs.Loading.{sectionOf, loadingOf, opening, posting, joining, closing, made}
+use Rattle.book_file.specs.Loading.{sectionOf, opening, posting, enrollingOrQuoting, made, madeClosing}
 use Rattle.book_file.proofs.tables.load_record.Statement.{statement}
 use Rattle.book_file.proofs.tables.load_record.Tie as tie
 
@@ -52,8 +49,8 @@ enum-told-3 c = search needs
 element-requires : tie.Need-element-requires
 element-requires c κs = search needs
 
-join-requires : tie.Need-join-requires
-join-requires c κs = search needs
+enrol-or-quote-requires : tie.Need-enrol-or-quote-requires
+enrol-or-quote-requires c κs = search needs
 
 enum-told-4 : tie.Need-enum-told-4
 enum-told-4 c = search needs
@@ -107,7 +104,7 @@ returns-3 c =
     let is = told .enum-told3 .given .1 in
     let there = position at ∙ ap (λ (t : Table). recordAt (sectionOf (args .file .now) t) (args .place)) is in
     rw is
-    (called .join .ensures ∙ ap (λ (r : ElementRecord). made (args .book .now) (joining (args .place + 1) r)) (read .element .ensures ∙ ap (elementRecord (args .file .now)) there))
+    (called .enrol-or-quote .ensures ∙ ap (λ (r : ElementRecord). made (args .book .now) (enrollingOrQuoting (args .place + 1) r)) (read .element .ensures ∙ ap (elementRecord (args .file .now)) there))
 
 same-length-4 : tie.Need-same-length-4
 same-length-4 c = search needs
@@ -122,7 +119,7 @@ returns-4 c =
     let is = told .enum-told4 .given .1 in
     let there = position at ∙ ap (λ (t : Table). recordAt (sectionOf (args .file .now) t) (args .place)) is in
     rw is
-    (called .close .ensures ∙ ap (λ (r : CategoryRecord). cond (eqb (r .flag) 1) (made (args .book .now) (closing (args .place + 1))) (loadingOf Loaded (args .book .now))) (read .category2 .ensures ∙ ap (categoryRecord (args .file .now)) there))
+    (called .close .ensures ∙ ap (madeClosing (args .book .now) (args .place + 1)) (read .category2 .ensures ∙ ap (categoryRecord (args .file .now)) there))
 
 pub load-record-spec : {M : Type 1} → statement M
 load-record-spec =
@@ -138,7 +135,7 @@ load-record-spec =
     post-requires
     enum-told-3
     element-requires
-    join-requires
+    enrol-or-quote-requires
     enum-told-4
     category-requires-2
     close-requires

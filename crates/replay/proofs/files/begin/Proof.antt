@@ -1,8 +1,7 @@
 -- `replay::files::begin` meets its contract. Assumes nothing.
-use mathlib.Core.Path.{ap}
 use borrow.Author.Tests.{le-leb, lt-leb}
 use borrow.Author.Needs.{needs}
-use Rattle.replay.specs.Stages.{fileRoom, idle, begun}
+use Rattle.replay.specs.Stages.{fileRoom, begun}
 use Rattle.replay.proofs.files.begin.Statement.{statement}
 use Rattle.replay.proofs.files.begin.Tie as tie
 
@@ -11,7 +10,7 @@ bad-requires c κs = search needs
 
 returns : tie.Need-returns
 unfolding begun
-returns c weights = rw (lt-leb _ fileRoom (c .before .if1 .taken)) (ap idle (c .bad .ensures weights _ _))
+returns c weights = rw (lt-leb _ fileRoom (c .before .if1 .taken)) (c .bad .ensures weights _ _ _)
 
 finish-requires : tie.Need-finish-requires
 finish-requires c κs = search needs

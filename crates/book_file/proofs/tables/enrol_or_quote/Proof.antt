@@ -1,8 +1,8 @@
--- `book_file::tables::join` meets its contract: category 0 is a quote. Assumes nothing.
+-- `book_file::tables::enrol_or_quote` meets its contract: category 0 is a quote. Assumes nothing.
 use borrow.Author.Tests.{eq-eqb, ne-eqb}
 use borrow.Author.Needs.{needs}
-use Rattle.book_file.proofs.tables.join.Statement.{statement}
-use Rattle.book_file.proofs.tables.join.Tie as tie
+use Rattle.book_file.proofs.tables.enrol_or_quote.Statement.{statement}
+use Rattle.book_file.proofs.tables.enrol_or_quote.Tie as tie
 
 quote-requires : tie.Need-quote-requires
 quote-requires c κs = search needs
@@ -26,6 +26,6 @@ returns-2 c =
     let enrolled = c .before .before in
     rw (ne-eqb _ 0 (enrolled .before .before .if1 .left)) (enrolled .enrol .ensures)
 
-pub join-spec : {M : Type 1} → statement M
-join-spec =
+pub enrol-or-quote-spec : {M : Type 1} → statement M
+enrol-or-quote-spec =
     tie.close (tie.spec quote-requires same-length returns enrol-requires same-length-2 returns-2)
