@@ -39,8 +39,7 @@ made-stopped ws task n e = rw e
 
 -- a task that ground 13 stops, and one whose call is made: a refused call leaves the book as it was
 pub made-broken : (ws : List ℕ) (task : Task) → task .broken ≡ true → made ws task ≡ loadingOf (Stopped 13 (task .place)) ws
-unfolding made answerAt
-made-broken ws task e = rw e
+made-broken ws task e = made-stopped ws task 12 (rw e)
 
 pub made-call : (ws : List ℕ) (task : Task) → task .broken ≡ false
     → made ws task ≡ loadingOf (answerAt (step ws (task .call) .reply .refusal) (task .place)) (step ws (task .call) .book)

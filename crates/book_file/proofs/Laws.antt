@@ -53,7 +53,7 @@ module _ (ws file : List ℕ) where
       ap (λ (l : Loading). sound (l .book)) (header-passes fine)
       ∙ carried-sound (loadingOf Loaded (freshBook ws)) (tasksOf file) (fresh-fine fine)
 
--- the book that tasks leave is that of a run of the calls made
+-- the book that tasks leave is that of a run of the calls accepted
 run-of : (run : Run) (tasks : List Task)
     → carriedOn (loadingOf Loaded (run .book)) tasks .book ≡ after run (take (passedOf (run .book) tasks) (callsOf tasks)) .book
 run-of run [] = refl
