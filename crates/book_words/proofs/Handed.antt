@@ -81,7 +81,7 @@ module _ (ws : List ℕ) (fine : sound ws ≡ true) where
       waiting-none (eqb (k .closed) 0) (elementAt ws p) (not-false (eqb (k .closed) 0) unclosed) (suits-parts k (elementAt ws p) (element-suited p h enrolled) .shares-wait)
 
   -- an element's chain is from 1 to 10,000
-  chain-inside : (p : ℕ) → p < elements ws → (1 ≤ elementAt ws p .chain) × (elementAt ws p .chain ≤ mostChains)
+  pub chain-inside : (p : ℕ) → p < elements ws → (1 ≤ elementAt ws p .chain) × (elementAt ws p .chain ≤ mostChains)
   chain-inside p h =
       let inside : isChain (elementAt ws p .chain) ≡ true =
       ⊎-elim

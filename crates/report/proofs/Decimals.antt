@@ -1,0 +1,110 @@
+-- The digits of a number: one by one from the last, and how many there are. Assumes nothing.
+use Prim.Native.Nat.{ℕ, zero, suc, _+_, _-_, _*_, _≤_, _<_, _/_, _%_, _^_}
+use native.Mathlib.Nat.{pow-suc, add-suc}
+use native.Mathlib.Numerals.{add-one, sub-one}
+use native.Mathlib.Omega.{arith}
+use mathlib.Core.Bool.{cond}
+use mathlib.Core.Logic.{_⊎_, inl, inr, ⊎-elim}
+use mathlib.Core.Path.{_≡_, refl, sym, _∙_, ap}
+use mathlib.Core.List.{List, [], _∷_, _++_, append-nil}
+use borrow.Author.Tests.{lt-ltb, le-ltb}
+use lib.Dec.{ltb}
+use lib.ListN.{length, set, length-append}
+use lib.Seq.{sets, append-snoc}
+use Rattle.apportion.proofs.Sums.{below-or-not}
+use Rattle.report.specs.Text.{digit, decimalWithin, decimal}
+use Rattle.report.proofs.Stores.{set-sets}
+
+-- room for one digit more changes nothing
+more-room : (most n : ℕ) → n < 10 ^ suc most → decimalWithin (suc most) n ≡ decimalWithin (suc (suc most)) n
+more-room zero n h = rw (lt-ltb n 10 h)
+more-room (suc most) n h =
+    let shorter : n < 10 ^ suc most * 10 = rw pow-suc at h in
+    ap (λ (front : List ℕ). cond (ltb n 10) (digit n ∷ []) (front ++ (digit (n % 10) ∷ []))) (more-room most (n / 10) (omega arith))
+
+-- a number of one digit, and of more
+pub decimal-one : (n : ℕ) → n < 10 → decimal n ≡ digit n ∷ []
+unfolding decimal
+decimal-one n h = rw (lt-ltb n 10 h)
+
+pub decimal-more : (n : ℕ) → n < 2 ^ 64 → 10 ≤ n → decimal n ≡ decimal (n / 10) ++ (digit (n % 10) ∷ [])
+unfolding decimal
+decimal-more n fits h =
+    rw (le-ltb n 10 h) (ap (λ (front : List ℕ). front ++ (digit (n % 10) ∷ [])) (more-room 18 (n / 10) (omega arith)))
+
+-- the length of a number of one digit, and of more
+pub count-one : (n : ℕ) → n < 10 → length (decimal n) ≡ 1
+count-one n h = rw (decimal-one n h)
+
+pub count-more : (n : ℕ) → n < 2 ^ 64 → 10 ≤ n → length (decimal n) ≡ suc (length (decimal (n / 10)))
+count-more n fits h = rw (decimal-more n fits h, length-append) (omega arith)
+
+-- a number has a digit
+pub count-some : (n : ℕ) → n < 2 ^ 64 → 1 ≤ length (decimal n)
+count-some n fits =
+    ⊎-elim
+    (λ (small : n < 10). omega (arith, count-one n small))
+    (λ (large : 10 ≤ n). omega (arith, count-more n fits large))
+    (below-or-not n 10)
+
+-- so a number of more than one digit is at least 10, and one of one digit is below
+pub one-or-more : (n left : ℕ) → n < 2 ^ 64 → length (decimal n) ≡ suc left → ((left ≡ 0) × (n < 10)) ⊎ ((0 < left) × (10 ≤ n))
+one-or-more n left fits e = go (below-or-not n 10)
+  where
+    go : (n < 10) ⊎ (10 ≤ n) → ((left ≡ 0) × (n < 10)) ⊎ ((0 < left) × (10 ≤ n))
+    go (inl small) = inl (omega (arith, count-one n small), small)
+    go (inr large) = inr (omega (arith, count-more n fits large, count-some (n / 10) (omega arith)), large)
+
+-- a number below 10^k has at most k digits
+within-most : (most k n : ℕ) → n < 10 ^ suc k → length (decimalWithin most n) ≤ suc k
+within-most zero k n h = omega arith
+within-most (suc most) k n h = go (below-or-not n 10) k h (λ j. within-most most j (n / 10))
+  where
+    go : (n < 10) ⊎ (10 ≤ n) → (k : ℕ) → n < 10 ^ suc k → ((j : ℕ) → n / 10 < 10 ^ suc j → length (decimalWithin most (n / 10)) ≤ suc j)
+        → length (decimalWithin (suc most) n) ≤ suc k
+    go (inl small) k h shorter = rw (lt-ltb n 10 small) (omega arith)
+    go (inr large) zero h shorter = let z : ⊥ = omega arith in absurd z
+    go (inr large) (suc k) h shorter =
+        let below : n < 10 ^ suc k * 10 = rw pow-suc at h in
+        rw (le-ltb n 10 large, length-append) (omega (arith, shorter k (omega arith)))
+
+pub digits-most : (k n : ℕ) → n < 10 ^ suc k → length (decimal n) ≤ suc k
+unfolding decimal
+digits-most k n h = within-most 20 k n h
+
+-- a number is stored from its last digit on: those behind the first `suc left` digits are there, and these are the digits of `rest`
+pub record Stored (number at : ℕ) (out₀ : List ℕ) (left rest : ℕ) (out : List ℕ) : Type 0 where
+  pub tail : List ℕ
+  pub whole : decimal number ≡ decimal rest ++ tail
+  pub counted : length (decimal rest) ≡ suc left
+  pub fits : rest < 2 ^ 64
+  pub stored : out ≡ sets out₀ (at + suc left) tail
+
+module _ (number at : ℕ) (out₀ : List ℕ) where
+  pub stored-start : number < 2 ^ 64 → (left : ℕ) → length (decimal number) ≡ suc left → Stored number at out₀ left number out₀
+  stored-start fits left e =
+      record { tail = []; whole = sym (append-nil (decimal number)); counted = e; fits = fits; stored = refl }
+
+  pub stored-next : (left rest : ℕ) (out : List ℕ) → 0 < left → Stored number at out₀ left rest out
+      → Stored number at out₀ (left - 1) (rest / 10) (set out (at + left) (digit (rest % 10)))
+  stored-next zero rest out some s = let z : ⊥ = omega arith in absurd z
+  stored-next (suc left) rest out some s =
+      let large : 10 ≤ rest = ⊎-elim (λ (one : (suc left ≡ 0) × (rest < 10)). omega arith) (λ (more : (0 < suc left) × (10 ≤ rest)). more .1) (one-or-more rest (suc left) (s .fits) (s .counted)) in
+      rw sub-one
+      (record {
+        tail = digit (rest % 10) ∷ s .tail;
+        whole = s .whole ∙ rw (decimal-more rest (s .fits) large, append-snoc (decimal (rest / 10)) (digit (rest % 10)) (s .tail));
+        counted = omega (arith, s .counted, count-more rest (s .fits) large);
+        fits = omega (arith, s .fits);
+        stored =
+            rw (s .stored, add-suc at (suc left))
+            (set-sets (s .tail) out₀ (suc (at + suc left)) (at + suc left) (digit (rest % 10)) (omega arith));
+      })
+
+  pub stored-last : (rest : ℕ) (out : List ℕ) → Stored number at out₀ 0 rest out
+      → set out at (digit (rest % 10)) ≡ sets out₀ at (decimal number)
+  stored-last rest out s =
+      let small : rest < 10 = ⊎-elim (λ (one : (0 ≡ 0) × (rest < 10)). one .1) (λ (more : (0 < 0) × (10 ≤ rest)). omega arith) (one-or-more rest 0 (s .fits) (s .counted)) in
+      let same : rest % 10 ≡ rest = omega arith in
+      rw (same, s .stored, s .whole, decimal-one rest small, add-one)
+      (set-sets (s .tail) out₀ (suc at) at (digit rest) (omega arith))

@@ -1,0 +1,49 @@
+-- The laws of a sheet, for the crates above. Assumes nothing.
+use Prim.Native.Nat.{ℕ, _≤_, _<_, _^_}
+use mathlib.Core.Bool.{true, false}
+use mathlib.Core.List.{List}
+use mathlib.Core.Path.{_≡_}
+use borrow.Author.Tests.{le-leb}
+use lib.ListN.{length, drop}
+use mathlib.Core.List.{_++_}
+use Rattle.book_words.specs.Soundness.{sound}
+use Rattle.report.specs.declared.printing.Printed.the-variants.{Written, Refused}
+use Rattle.report.specs.Printing.{answerFor, bufferWith}
+use Rattle.report.specs.Sheet.{sheetText, sheetRoom, sheetRefusal, sheetAnswer, sheetBuffer, refusedText, refusedRoom}
+use Rattle.report.proofs.Lines.{sheet-most, refused-most}
+
+module _ (ws : List ℕ) where
+  -- the sheet of a sound book is printed, and that of another refused
+  pub sheet-answered : (room : ℕ) → sound ws ≡ true → sheetAnswer ws room ≡ answerFor (sheetText ws) room
+  unfolding sheetAnswer sheetRefusal
+  sheet-answered room fine = rw fine
+
+  pub sheet-printed : (buffer : List ℕ) → sound ws ≡ true → sheetBuffer ws buffer ≡ bufferWith (sheetText ws) buffer
+  unfolding sheetBuffer sheetRefusal
+  sheet-printed buffer fine = rw fine
+
+  pub sheet-refused : (room : ℕ) → sound ws ≡ false → sheetAnswer ws room ≡ Refused 1
+  unfolding sheetAnswer sheetRefusal
+  sheet-refused room unsound = rw unsound
+
+  pub sheet-unprinted : (buffer : List ℕ) → sound ws ≡ false → sheetBuffer ws buffer ≡ buffer
+  unfolding sheetBuffer sheetRefusal
+  sheet-unprinted buffer unsound = rw unsound
+
+  -- the sheet of a sound book fits the room that is named for it
+  pub sheet-fits : sound ws ≡ true → length (sheetText ws) ≤ sheetRoom
+  sheet-fits fine = sheet-most ws fine
+
+-- so does the line of a refusal
+pub refused-fits : (number table recordNumber : ℕ) → number < 2 ^ 64 → table < 2 ^ 64 → recordNumber < 2 ^ 64
+    → length (refusedText number table recordNumber) ≤ refusedRoom
+refused-fits number table recordNumber one two three = refused-most number table recordNumber one two three
+
+-- a text that fits is written whole, and the bytes past it stay as they were
+pub fitting-written : (text : List ℕ) (room : ℕ) → length text ≤ room → answerFor text room ≡ Written (length text)
+unfolding answerFor
+fitting-written text room h = rw (le-leb (length text) room h)
+
+pub fitting-buffer : (text buffer : List ℕ) → length text ≤ length buffer → bufferWith text buffer ≡ text ++ drop (length text) buffer
+unfolding bufferWith
+fitting-buffer text buffer h = rw (le-leb (length text) (length buffer) h)

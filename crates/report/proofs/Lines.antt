@@ -1,0 +1,234 @@
+-- Lines of numbers, and the lines of a sheet. Assumes nothing.
+use Prim.Native.Nat.{ℕ, zero, suc, _+_, _*_, _-_, _≤_, _<_, _^_}
+use native.Mathlib.Nat.{eq-or-lt-of-le, le-refl}
+use native.Mathlib.Numerals.{add-one, sub-one}
+use native.Mathlib.Omega.{arith}
+use mathlib.Core.Bool.{Bool, true, false, cond}
+use mathlib.Core.Logic.{⊎-elim}
+use mathlib.Core.List.{List, [], _∷_, _++_, append-nil, append-assoc}
+use mathlib.Core.Path.{_≡_, refl, sym, _∙_, ap}
+use borrow.Author.Tests.{ltb-true}
+use lib.Dec.{ltb}
+use lib.ListN.{length, getD, drop, set, length-append, drop-of-length-le}
+use lib.Seq.{sets, drop-cons, length-sets}
+use Rattle.apportion.specs.Dividing.{largest}
+use Rattle.apportion.specs.Places.{sumBelow, countBelow}
+use Rattle.apportion.proofs.Sums.{count-most}
+use Rattle.book.specs.Statements.{elementsOn, waitingOn, sharesOn, statementOf}
+use Rattle.book.proofs.Walking.{Walked, walked-most, walked-fits}
+use Rattle.book_words.specs.Book.{elements}
+use Rattle.book_words.specs.Measures.{mostChains}
+use Rattle.book_words.specs.Soundness.{sound}
+use Rattle.book_words.specs.Totals.{operation, provision}
+use Rattle.book_words.proofs.Facts.{sound-counted}
+use Rattle.report.specs.Text.{decimal, spaced, line}
+use Rattle.report.specs.Chains.{NextUsed}
+use Rattle.report.specs.Sheet.{heading, isUsed, chainLine, linesTo, chainLines, sheetText, lineRoom, sheetRoom, refusedWord, refusedText, refusedRoom}
+use Rattle.report.proofs.Decimals.{digits-most}
+use Rattle.report.proofs.Stores.{sets-append}
+use Rattle.report.proofs.Used.{elements-by-chain}
+
+-- the end of a line whose first i numbers are stored: the others, each behind a space, and the newline
+abbrev pub restOf : List ℕ → ℕ → List ℕ
+restOf numbers i = spaced (drop i numbers) ++ (10 ∷ [])
+
+-- one number more
+pub rest-next : (numbers : List ℕ) (i : ℕ) → i < length numbers
+    → restOf numbers i ≡ (32 ∷ decimal (getD numbers i 0)) ++ restOf numbers (i + 1)
+rest-next numbers i h =
+    rw (add-one, drop-cons numbers i 0) (append-assoc (32 ∷ decimal (getD numbers i 0)) (spaced (drop (suc i) numbers)) (10 ∷ []))
+
+-- so its bytes and its place: what is stored behind them makes the line whole
+pub rest-stored : (numbers out : List ℕ) (end i : ℕ) → i < length numbers
+    → sets (sets (set out end 32) (end + 1) (decimal (getD numbers i 0))) (end + 1 + length (decimal (getD numbers i 0))) (restOf numbers (i + 1))
+    ≡ sets out end (restOf numbers i)
+rest-stored numbers out end i h =
+    rw (rest-next numbers i h, add-one)
+    (sym (sets-append (decimal (getD numbers i 0)) (restOf numbers (i + 1)) (set out end 32) (suc end)))
+
+pub rest-length : (numbers : List ℕ) (i : ℕ) → i < length numbers
+    → length (restOf numbers i) ≡ 1 + length (decimal (getD numbers i 0)) + length (restOf numbers (i + 1))
+rest-length numbers i h =
+    ap length (rest-next numbers i h)
+    ∙ length-append (32 ∷ decimal (getD numbers i 0)) (restOf numbers (i + 1))
+    ∙ omega arith
+
+-- a line is its first number and the rest
+pub line-parts : (first : ℕ) (rest : List ℕ) → line first rest ≡ decimal first ++ restOf rest 0
+unfolding line
+line-parts first rest = refl
+
+pub line-length : (first : ℕ) (rest : List ℕ) → length (line first rest) ≡ length (decimal first) + length (restOf rest 0)
+line-length first rest = ap length (line-parts first rest) ∙ length-append (decimal first) (restOf rest 0)
+
+-- nothing is left of it but the newline
+pub rest-end : (numbers : List ℕ) (i : ℕ) → length numbers ≤ i → restOf numbers i ≡ 10 ∷ []
+rest-end numbers i h = rw (drop-of-length-le numbers {i = i} h)
+
+-- a line of five numbers, and one of two, behind the first, by the most digits of each
+line-of-five : (f a b c d e : ℕ) → length (line f (a ∷ b ∷ c ∷ d ∷ e ∷ []))
+    ≡ length (decimal f) + length (decimal a) + length (decimal b) + length (decimal c) + length (decimal d) + length (decimal e) + 6
+unfolding line
+line-of-five f a b c d e = simp length-append (omega arith)
+
+line-of-two : (f a b : ℕ) → length (line f (a ∷ b ∷ [])) ≡ length (decimal f) + length (decimal a) + length (decimal b) + 3
+unfolding line
+line-of-two f a b = simp length-append (omega arith)
+
+-- so the line of a refusal has room
+pub refused-most : (number table recordNumber : ℕ) → number < 2 ^ 64 → table < 2 ^ 64 → recordNumber < 2 ^ 64
+    → length (refusedText number table recordNumber) ≤ refusedRoom
+unfolding refusedText refusedWord
+refused-most number table recordNumber one two three =
+    omega (
+      arith,
+      length-append refusedWord (line number (table ∷ recordNumber ∷ [])),
+      line-of-two number table recordNumber,
+      digits-most 19 number (omega arith),
+      digits-most 19 table (omega arith),
+      digits-most 19 recordNumber (omega arith),
+    )
+
+module _ (ws : List ℕ) where
+  -- chains that are not used have no line
+  lines-skip : (a b : ℕ) → a ≤ b → ((chain : ℕ) → a < chain → chain ≤ b → isUsed ws chain ≡ false) → linesTo ws b ≡ linesTo ws a
+  lines-skip a zero h none = let z : a ≡ 0 = omega arith in rw z
+  lines-skip a (suc b) h none =
+      ⊎-elim
+      (λ (e : a ≡ suc b). rw e)
+      (λ (l : a < suc b).
+      rw (none (suc b) l (omega arith), append-nil (linesTo ws b)) (lines-skip a b (omega arith) (λ chain x y. none chain x (omega arith))))
+      (eq-or-lt-of-le h)
+
+  -- a used chain has one
+  lines-with : (chain : ℕ) → 1 ≤ chain → isUsed ws chain ≡ true → linesTo ws chain ≡ linesTo ws (chain - 1) ++ chainLine ws chain
+  lines-with zero some used = let z : ⊥ = omega arith in absurd z
+  lines-with (suc n) some used = rw (sub-one, used)
+
+  lines-more : (m n : ℕ) → m ≤ n → length (linesTo ws m) ≤ length (linesTo ws n)
+  lines-more m zero h = let z : m ≡ 0 = omega arith in rw z (omega arith)
+  lines-more m (suc n) h =
+      ⊎-elim
+      (λ (e : m ≡ suc n). rw e (omega arith))
+      (λ (l : m < suc n). omega (arith, lines-more m n (omega arith), length-append (linesTo ws n) (cond (isUsed ws (suc n)) (chainLine ws (suc n)) [])))
+      (eq-or-lt-of-le h)
+
+  -- a sheet whose lines before this chain are stored; the chain is used, or past the last
+  pub record Listed (out₀ : List ℕ) (start chain end : ℕ) (out : List ℕ) : Type 0 where
+    pub some : 1 ≤ chain
+    pub inside : chain ≤ suc mostChains
+    pub used : chain ≤ mostChains → isUsed ws chain ≡ true
+    pub ends : end ≡ start + length (linesTo ws (chain - 1))
+    pub stored : out ≡ sets out₀ start (linesTo ws (chain - 1))
+
+  -- no line stands between two used chains
+  lines-between : (after next : ℕ) → after ≤ mostChains → NextUsed ws after next → linesTo ws (next - 1) ≡ linesTo ws after
+  lines-between after next h n =
+      let later = n .later h in
+      lines-skip after (next - 1) (omega arith) (λ chain a b. n .none-between chain a (omega arith))
+
+  module _ (out₀ : List ℕ) (start : ℕ) where
+    pub listed-start : (chain : ℕ) → NextUsed ws 0 chain → Listed out₀ start chain start out₀
+    listed-start chain n =
+        let none = lines-between 0 chain (omega arith) n in
+        record {
+          some = n .later (omega arith);
+          inside = n .inside;
+          used = n .used;
+          ends = rw none (omega arith);
+          stored = rw none;
+        }
+
+    -- the line of the chain, and the next
+    pub listed-next : (chain end next end′ : ℕ) (out out′ : List ℕ) → Listed out₀ start chain end out → chain ≤ mostChains → NextUsed ws chain next
+        → end′ ≡ end + length (chainLine ws chain) → out′ ≡ sets out end (chainLine ws chain) → Listed out₀ start next end′ out′
+    listed-next chain end next end′ out out′ l h n ends stored =
+        let later = n .later h in
+        let lines = lines-between chain next h n ∙ lines-with chain (l .some) (l .used h) in
+        record {
+          some = omega arith;
+          inside = n .inside;
+          used = n .used;
+          ends = rw lines (omega (arith, ends, l .ends, length-append (linesTo ws (chain - 1)) (chainLine ws chain)));
+          stored =
+              stored
+              ∙ rw (lines, l .stored, l .ends)
+              (sym (sets-append (linesTo ws (chain - 1)) (chainLine ws chain) out₀ start));
+        }
+
+    -- the line has room where all lines have
+    all-lines : (n : ℕ) → n ≡ mostChains → chainLines ws ≡ linesTo ws n
+    unfolding chainLines
+    all-lines n e = ap (λ (k : ℕ). linesTo ws k) (sym e)
+
+    pub listed-room : (chain end : ℕ) (out : List ℕ) → Listed out₀ start chain end out → chain ≤ mostChains → start + length (chainLines ws) ≤ length out₀
+        → end + length (chainLine ws chain) ≤ length out
+    listed-room chain end out l h room = go mostChains refl
+      where
+        go : (n : ℕ) → n ≡ mostChains → end + length (chainLine ws chain) ≤ length out
+        go n e =
+            omega (
+              arith,
+              e,
+              l .ends,
+              room,
+              ap length (l .stored) ∙ length-sets out₀ start (linesTo ws (chain - 1)),
+              ap length (lines-with chain (l .some) (l .used h)) ∙ length-append (linesTo ws (chain - 1)) (chainLine ws chain),
+              lines-more chain n (omega arith),
+              ap length (all-lines n e),
+            )
+
+    -- after the last chain all lines are stored
+    pub listed-all : (chain end : ℕ) (out : List ℕ) → Listed out₀ start chain end out → mostChains < chain
+        → (end ≡ start + length (chainLines ws)) × (out ≡ sets out₀ start (chainLines ws))
+    listed-all chain end out l h =
+        let all = all-lines (chain - 1) (omega (arith, l .inside)) in
+        (l .ends ∙ rw all, l .stored ∙ rw all)
+
+  -- a statement's numbers are those of a walk over all elements
+  walked-all : (chain : ℕ) → Walked ws chain (elements ws) (elementsOn ws chain) (waitingOn ws chain) (sharesOn ws chain operation) (sharesOn ws chain provision)
+  unfolding elementsOn waitingOn sharesOn
+  walked-all chain =
+      record { inside = omega arith; all-counted = refl; all-waiting = refl; all-operation = refl; all-provision = refl }
+
+  module _ (fine : sound ws ≡ true) where
+    -- the line of a chain has at most 74 bytes
+    line-most : (chain : ℕ) → chain ≤ mostChains → length (chainLine ws chain) ≤ lineRoom
+    unfolding chainLine statementOf
+    line-most chain h =
+        let few = sound-counted ws fine in
+        let counts = walked-fits ws chain (walked-all chain) in
+        let shares = walked-most ws chain fine (walked-all chain) in
+        omega (
+          arith,
+          line-of-five chain (elementsOn ws chain) (waitingOn ws chain) (sharesOn ws chain operation) (sharesOn ws chain provision) (sharesOn ws chain operation + sharesOn ws chain provision),
+          digits-most 4 chain (omega arith),
+          digits-most 2 (elementsOn ws chain) (omega (arith, few, counts)),
+          digits-most 2 (waitingOn ws chain) (omega (arith, few, counts)),
+          digits-most 18 (sharesOn ws chain operation) (omega (arith, shares)),
+          digits-most 18 (sharesOn ws chain provision) (omega (arith, shares)),
+          digits-most 18 (sharesOn ws chain operation + sharesOn ws chain provision) (omega (arith, shares)),
+        )
+
+    -- the lines of the chains 1 to n have at most 74 bytes for each of their elements
+    lines-most : (n : ℕ) → n ≤ mostChains → length (linesTo ws n) ≤ lineRoom * sumBelow n (λ j. elementsOn ws (j + 1))
+    unfolding isUsed
+    lines-most zero h = omega arith
+    lines-most (suc n) h = go (ltb 0 (elementsOn ws (suc n))) refl (lines-most n (omega arith))
+      where
+        go : (t : Bool) → ltb 0 (elementsOn ws (suc n)) ≡ t → length (linesTo ws n) ≤ lineRoom * sumBelow n (λ j. elementsOn ws (j + 1))
+            → length (linesTo ws n ++ cond (ltb 0 (elementsOn ws (suc n))) (chainLine ws (suc n)) []) ≤ lineRoom * (sumBelow n (λ j. elementsOn ws (j + 1)) + elementsOn ws (n + 1))
+        go true e before =
+            rw (e, length-append, add-one) (omega (arith, before, line-most (suc n) h, ltb-true 0 (elementsOn ws (suc n)) e))
+        go false e before = rw (e, append-nil (linesTo ws n)) (omega (arith, before))
+
+    -- so a sheet has room
+    room-for : (n : ℕ) → n ≤ mostChains → sumBelow n (λ j. elementsOn ws (j + 1)) ≤ 256 → length (heading ++ linesTo ws n) ≤ sheetRoom
+    unfolding heading
+    room-for n h few = omega (arith, length-append heading (linesTo ws n), lines-most n h, few)
+
+    pub sheet-most : length (sheetText ws) ≤ sheetRoom
+    unfolding sheetText chainLines
+    sheet-most =
+        let all : (k : ℕ) → k ≡ elements ws → k ≤ 256 = λ k e. omega (arith, e, sound-counted ws fine) in
+        room-for mostChains (le-refl mostChains) (all _ (elements-by-chain ws fine))

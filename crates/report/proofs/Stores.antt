@@ -1,0 +1,56 @@
+-- Bytes stored one after the other. Assumes nothing.
+use Prim.Native.Nat.{ℕ, suc, _+_, _≤_, _<_}
+use native.Mathlib.Nat.{add-zero, suc-add, add-suc}
+use native.Mathlib.Numerals.{add-one}
+use native.Mathlib.Omega.{arith}
+use mathlib.Core.Path.{_≡_, refl, sym, _∙_, ap}
+use mathlib.Core.List.{List, [], _∷_, _++_}
+use lib.ListN.{length, getD, take, drop, set, replicate, length-append, length-replicate, drop-of-length-le}
+use lib.Seq.{sets, sets-eq, length-sets, set-comm, drop-cons, take-append-seam}
+
+-- two texts, the second behind the first
+pub sets-append : (s t out : List ℕ) (i : ℕ) → sets out i (s ++ t) ≡ sets (sets out i s) (i + length s) t
+sets-append [] t out i = rw add-zero
+sets-append (b ∷ s) t out i = rw (add-suc, ← suc-add) (sets-append s t (set out i b) (suc i))
+
+-- a byte before what is stored
+pub set-sets : (t out : List ℕ) (i j b : ℕ) → j < i → set (sets out i t) j b ≡ sets (set out j b) i t
+set-sets [] out i j b h = refl
+set-sets (x ∷ t) out i j b h =
+    set-sets t (set out i x) (suc i) j b (omega arith)
+    ∙ ap (λ (l : List ℕ). sets l (suc i) t) (set-comm out i j x b (λ e. let z : ⊥ = omega arith in absurd z))
+
+-- a turn of the loop that stores a text byte by byte
+pub sets-step : (text out : List ℕ) (at i : ℕ) → i < length text
+    → sets (set out (at + i) (getD text i 0)) (at + (i + 1)) (drop (i + 1) text) ≡ sets out (at + i) (drop i text)
+sets-step text out at i h = rw (add-one, drop-cons text i 0, add-suc)
+
+-- nothing is left of a text that is stored
+pub sets-done : (text out : List ℕ) (i j : ℕ) → length text ≤ j → sets out i (drop j text) ≡ out
+sets-done text out i j h = rw (drop-of-length-le text {i = j} h)
+
+-- one text and then another: where they end, and what is stored
+pub then-stored : (s t out between after : List ℕ) (i j : ℕ) → between ≡ sets out 0 s → i ≡ 0 + length s → after ≡ sets between i t → j ≡ i + length t
+    → (j ≡ length (s ++ t)) × (after ≡ sets out 0 (s ++ t))
+then-stored s t out between after i j one end two last = (
+  omega (arith, end, last, length-append s t),
+  rw (two, one, end) (sym (sets-append s t out 0)),
+)
+
+-- a text that is stored at the front of an array of zeros is its first part
+pub record InRoom (text array : List ℕ) (count : ℕ) : Type 0 where
+  pub inside : count ≤ length array
+  pub counted : count ≡ length (take count array)
+  pub is-text : take count array ≡ text
+
+pub in-room : (room count : ℕ) (text array : List ℕ) → array ≡ sets (replicate room 0) 0 text → count ≡ length text → length text ≤ room
+    → InRoom text array count
+in-room room count text array stored counted h =
+    let long = length-replicate {A = ℕ} room 0 in
+    let fits : 0 + length text ≤ length (replicate {A = ℕ} room 0) = omega (arith, h, long) in
+    let front : take count array ≡ text = rw (stored, counted, sets-eq text (replicate room 0) 0 fits) (take-append-seam text _) in
+    record {
+      inside = omega (arith, h, counted, ap length stored ∙ length-sets (replicate room 0) 0 text, long);
+      counted = counted ∙ ap length (sym front);
+      is-text = front;
+    }

@@ -1,0 +1,109 @@
+-- Used chains: what a walk over the elements holds of the next one, and how many elements all chains have. Assumes nothing.
+use Prim.Native.Nat.{ℕ, zero, suc, _+_, _≤_, _<_}
+use native.Mathlib.Numerals.{add-one}
+use native.Mathlib.Omega.{arith}
+use mathlib.Core.Bool.{Bool, true, false, true≢false, cond, _&&_}
+use mathlib.Core.List.{List}
+use mathlib.Core.Path.{_≡_, refl, sym, _∙_, ap}
+use lib.Dec.{eqb, ltb}
+use borrow.Author.Tests.{lt-ltb, eq-eqb, ne-eqb, ltb-true}
+use Rattle.apportion.specs.Places.{sumBelow, countBelow, oneIf}
+use Rattle.apportion.proofs.Sums.{sum-next, sum-cong}
+use Rattle.book.specs.Statements.{elementsOn, ofChain}
+use Rattle.book_words.specs.Book.{elements, elementAt}
+use Rattle.book_words.specs.Measures.{mostChains}
+use Rattle.book_words.specs.Soundness.{sound}
+use Rattle.book_words.proofs.Booleans.{both, and-both}
+use Rattle.book_words.proofs.Handed.{chain-inside}
+use Rattle.book_words.proofs.Keys.{sum-by-key}
+use Rattle.report.specs.Chains.{NextUsed}
+use Rattle.report.specs.Sheet.{isUsed}
+
+-- how many of the first n elements a chain has
+abbrev among : List ℕ → ℕ → ℕ → ℕ
+among ws n chain = countBelow n (λ p. ofChain chain (elementAt ws p))
+
+-- after the first n elements: the next chain that one of them is on
+pub record Seen (ws : List ℕ) (after n next : ℕ) : Type 0 where
+  pub inside : next ≤ suc mostChains
+  pub later : after ≤ mostChains → after < next
+  pub met : next ≤ mostChains → 0 < among ws n next
+  pub none-between : (chain : ℕ) → after < chain → chain < next → among ws n chain ≡ 0
+
+module _ (ws : List ℕ) (after : ℕ) where
+  pub seen-start : Seen ws after 0 (suc mostChains)
+  seen-start = record { inside = omega arith; later = λ h. omega arith; met = λ h. omega arith; none-between = λ chain l r. refl }
+
+  -- one more element, by its chain
+  next-met : (n chain : ℕ) → elementAt ws n .chain ≡ chain → among ws (n + 1) chain ≡ among ws n chain + 1
+  next-met n chain e = sum-next n (λ p. oneIf (ofChain chain (elementAt ws p))) ∙ rw (eq-eqb (elementAt ws n .chain) chain e)
+
+  next-other : (n chain : ℕ) → (elementAt ws n .chain ≡ chain → ⊥) → among ws (n + 1) chain ≡ among ws n chain
+  next-other n chain ne =
+      sum-next n (λ p. oneIf (ofChain chain (elementAt ws p))) ∙ rw (ne-eqb (elementAt ws n .chain) chain ne) (omega arith)
+
+  next-more : (n chain : ℕ) → among ws n chain ≤ among ws (n + 1) chain
+  next-more n chain = omega (arith, sum-next n (λ p. oneIf (ofChain chain (elementAt ws p))))
+
+  -- its chain is nearer, or it is not
+  pub seen-nearer : (n next new : ℕ) → Seen ws after n next → ltb after (elementAt ws n .chain) && ltb (elementAt ws n .chain) next ≡ true
+      → new ≡ elementAt ws n .chain → Seen ws after (n + 1) new
+  seen-nearer n next new s test is =
+      let parts = both (ltb after (elementAt ws n .chain)) (ltb (elementAt ws n .chain) next) test in
+      let low = ltb-true after (elementAt ws n .chain) (parts .0) in
+      let high = ltb-true (elementAt ws n .chain) next (parts .1) in
+      rw is
+      (record {
+        inside = omega (arith, s .inside);
+        later = λ h. low;
+        met = λ h. omega (arith, next-met n (elementAt ws n .chain) refl);
+        none-between = λ chain a b. next-other n chain (λ e. omega arith) ∙ s .none-between chain a (omega arith);
+      })
+
+  pub seen-other : (n next new : ℕ) → Seen ws after n next → ltb after (elementAt ws n .chain) && ltb (elementAt ws n .chain) next ≡ false
+      → new ≡ next → Seen ws after (n + 1) new
+  seen-other n next new s test is =
+      rw is
+      (record {
+        inside = s .inside;
+        later = s .later;
+        met = λ h. omega (arith, s .met h, next-more n next);
+        none-between = λ chain a b. next-other n chain (λ e. not-nearer chain a b e) ∙ s .none-between chain a b;
+      })
+    where
+      not-nearer : (chain : ℕ) → after < chain → chain < next → elementAt ws n .chain ≡ chain → ⊥
+      not-nearer chain a b e =
+          true≢false
+          (sym (and-both (ltb after (elementAt ws n .chain)) (ltb (elementAt ws n .chain) next) (lt-ltb after (elementAt ws n .chain) (omega arith)) (lt-ltb (elementAt ws n .chain) next (omega arith)))
+          ∙ test)
+
+  -- after all elements it is the next used chain
+  pub seen-all : (n next : ℕ) → n ≡ elements ws → Seen ws after n next → NextUsed ws after next
+  unfolding isUsed elementsOn
+  seen-all n next e s =
+      record {
+        inside = s .inside;
+        later = s .later;
+        used = λ h. rw (← e) (lt-ltb 0 _ (s .met h));
+        none-between = λ chain a b. rw (← e, s .none-between chain a b);
+      }
+
+-- the elements of all chains are all elements
+pub elements-by-chain : (ws : List ℕ) → sound ws ≡ true → sumBelow mostChains (λ j. elementsOn ws (j + 1)) ≡ elements ws
+unfolding elementsOn
+elements-by-chain ws fine =
+    sum-cong mostChains
+    (λ j. countBelow (elements ws) (λ p. ofChain (j + 1) (elementAt ws p)))
+    (λ j. sumBelow (elements ws) (λ p. cond (eqb (elementAt ws p .chain) (j + 1)) 1 0))
+    (λ j h. sum-cong (elements ws) (λ p. oneIf (ofChain (j + 1) (elementAt ws p))) (λ p. cond (eqb (elementAt ws p .chain) (j + 1)) 1 0) (λ p i. one-or-none (eqb (elementAt ws p .chain) (j + 1))))
+    ∙ sum-by-key 1 mostChains (elements ws) (λ p. elementAt ws p .chain) (λ p. 1)
+    (λ p h. (chain-inside ws fine p h .0, omega (arith, chain-inside ws fine p h .1)))
+    ∙ ones (elements ws)
+  where
+    one-or-none : (t : Bool) → oneIf t ≡ cond t 1 0
+    one-or-none true = refl
+    one-or-none false = refl
+
+    ones : (n : ℕ) → sumBelow n (λ p. 1) ≡ n
+    ones zero = refl
+    ones (suc n) = omega (arith, ones n)

@@ -1,0 +1,73 @@
+-- `report::refusals::write_refused` meets its contract. Assumes nothing.
+use Prim.Native.Nat.{_+_}
+use native.Mathlib.Omega.{arith}
+use mathlib.Core.List.{[], _∷_}
+use mathlib.Core.Path.{_∙_, ap}
+use borrow.Author.Needs.{needs}
+use lib.ListN.{length, length-append}
+use lib.Seq.{length-sets}
+use Rattle.report.specs.Sheet.{refusedWord, refusedText}
+use Rattle.report.specs.Text.{line}
+use Rattle.report.proofs.Lines.{refused-most}
+use Rattle.report.proofs.Stores.{then-stored}
+use Rattle.report.proofs.refusals.write_refused.Statement.{statement}
+use Rattle.report.proofs.refusals.write_refused.Tie as tie
+use Rattle.report.proofs.refusals.write_refused.Reads as reads
+use Rattle.report.proofs.refusals.write_refused.Lts as lts
+use Rattle.report.proofs.text.put_bytes.Reads as put-bytes-reads
+use Rattle.report.proofs.text.put_line.Reads as put-line-reads
+
+slice-aggregate-put-bytes : tie.Need-slice-aggregate-put-bytes
+slice-aggregate-put-bytes c = search needs
+
+put-bytes-requires : tie.Need-put-bytes-requires
+put-bytes-requires c κs = omega (arith, c .before .before .before .pre)
+
+slice-aggregate-put-line : tie.Need-slice-aggregate-put-line
+slice-aggregate-put-line c = search needs
+
+put-line-requires : tie.Need-put-line-requires
+unfolding refusedText refusedWord
+put-line-requires c κs =
+    let start = c .before .before .before .before .before .before .before .before in
+    let put = c .before .before .before .before .put-bytes in
+    let a = start .args in
+    omega (
+      arith,
+      start .pre,
+      put .ensures .0,
+      ap length (put .ensures .1) ∙ length-sets (a .out .now) 0 refusedWord,
+      length-append refusedWord (line (a .number) (a .table ∷ a .«record» ∷ [])),
+      refused-most (a .number) (a .table) (a .«record») (omega arith) (omega arith) (omega arith),
+    )
+
+same-length : tie.Need-same-length
+unfolding refusedWord
+same-length c =
+    let start = c .before .before .before .before .before .before .before .before .before .before .before in
+    let put = c .before .before .before .before .before .before .before .put-bytes in
+    let a = start .args in
+    ap length (c .before .before .put-line .ensures .1)
+    ∙ length-sets (put .last .1 .0) (put .result) (line (a .number) (a .table ∷ a .«record» ∷ []))
+    ∙ ap length (put .ensures .1)
+    ∙ length-sets (a .out .now) 0 refusedWord
+
+returns : tie.Need-returns
+unfolding refusedText refusedWord
+returns c =
+    let start = c .before .before .before .before .before .before .before .before .before .before .before in
+    let put = c .before .before .before .before .before .before .before .put-bytes in
+    let end = c .before .before .put-line in
+    let a = start .args in
+    then-stored refusedWord (line (a .number) (a .table ∷ a .«record» ∷ [])) (a .out .now) (put .last .1 .0) (end .last .1 .1 .0) (put .result) (end .result) (put .ensures .1) (put .ensures .0) (end .ensures .1) (end .ensures .0)
+
+pub write-refused-spec : {M : Type 1} → statement M
+write-refused-spec =
+    tie.close
+    (tie.spec
+    slice-aggregate-put-bytes
+    put-bytes-requires
+    slice-aggregate-put-line
+    put-line-requires
+    same-length
+    returns)

@@ -1,0 +1,4 @@
+pub mod Text
+pub mod Printing
+pub mod Sheet
+pub mod Chains

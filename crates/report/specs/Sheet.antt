@@ -1,0 +1,89 @@
+-- "The program .. prints the heading and one line per used chain, ascending, or `refused` with number, table (0 header) and record
+-- (0)." Assumes nothing.
+use Prim.Native.Nat.{ℕ, zero, suc, _+_, _*_}
+use mathlib.Core.Bool.{Bool, cond, not}
+use mathlib.Core.List.{List, [], _∷_, _++_}
+use lib.Dec.{ltb}
+use Rattle.apportion.specs.Grounds.{Ground, firstOf, accepted}
+use Rattle.book.specs.Statements.{elementsOn, statementOf}
+use Rattle.book.specs.declared.replies.Statement.{Statement}
+use Rattle.book_words.specs.Book.{mostElements}
+use Rattle.book_words.specs.Measures.{mostChains}
+use Rattle.book_words.specs.Soundness.{sound}
+use Rattle.report.specs.declared.printing.Printed.{Printed}
+use Rattle.report.specs.declared.printing.Printed.the-variants.{Refused}
+use Rattle.report.specs.Printing.{answerFor, bufferWith}
+use Rattle.report.specs.Text.{line}
+
+-- "chain elements waiting operation provision total" and a newline
+unfoldable pub heading : List ℕ
+heading =
+    -- "chain "
+    99 ∷ 104 ∷ 97 ∷ 105 ∷ 110 ∷ 32
+    -- "elements "
+    ∷ 101 ∷ 108 ∷ 101 ∷ 109 ∷ 101 ∷ 110 ∷ 116 ∷ 115 ∷ 32
+    -- "waiting "
+    ∷ 119 ∷ 97 ∷ 105 ∷ 116 ∷ 105 ∷ 110 ∷ 103 ∷ 32
+    -- "operation "
+    ∷ 111 ∷ 112 ∷ 101 ∷ 114 ∷ 97 ∷ 116 ∷ 105 ∷ 111 ∷ 110 ∷ 32
+    -- "provision "
+    ∷ 112 ∷ 114 ∷ 111 ∷ 118 ∷ 105 ∷ 115 ∷ 105 ∷ 111 ∷ 110 ∷ 32
+    -- "total"
+    ∷ 116 ∷ 111 ∷ 116 ∷ 97 ∷ 108 ∷ 10 ∷ []
+
+-- a used chain has an element
+unfoldable pub isUsed : List ℕ → ℕ → Bool
+isUsed ws chain = ltb 0 (elementsOn ws chain)
+
+-- the line of a chain: its number and its statement, under the words of the heading
+abbrev pub statementNumbers : Statement → List ℕ
+statementNumbers s = s .elements ∷ s .waiting ∷ s .operation ∷ s .provision ∷ s .total ∷ []
+
+unfoldable pub chainLine : List ℕ → ℕ → List ℕ
+chainLine ws chain = line chain (statementNumbers (statementOf ws chain))
+
+-- the lines of the used chains among 1 to n
+abbrev pub linesTo : List ℕ → ℕ → List ℕ
+linesTo ws zero = []
+linesTo ws (suc n) = linesTo ws n ++ cond (isUsed ws (suc n)) (chainLine ws (suc n)) []
+
+-- "one line per used chain, ascending"
+unfoldable pub chainLines : List ℕ → List ℕ
+chainLines ws = linesTo ws mostChains
+
+-- the text of a sheet
+unfoldable pub sheetText : List ℕ → List ℕ
+sheetText ws = heading ++ chainLines ws
+
+-- the most bytes of it: the heading's 49, and 74 for each of at most 256 lines
+abbrev pub lineRoom : ℕ
+lineRoom = 74
+
+abbrev pub sheetRoom : ℕ
+sheetRoom = 18_993
+
+-- "1. .. the book is not sound."
+abbrev pub sheetGrounds : List ℕ → List Ground
+sheetGrounds ws = (1, not (sound ws)) ∷ []
+
+unfoldable pub sheetRefusal : List ℕ → ℕ
+sheetRefusal ws = firstOf (sheetGrounds ws)
+
+-- the answer for a buffer of `room` bytes, and the buffer after
+unfoldable pub sheetAnswer : List ℕ → ℕ → Printed
+sheetAnswer ws room = accepted (sheetRefusal ws) (answerFor (sheetText ws) room) (Refused (sheetRefusal ws))
+
+unfoldable pub sheetBuffer : List ℕ → List ℕ → List ℕ
+sheetBuffer ws buffer = accepted (sheetRefusal ws) (bufferWith (sheetText ws) buffer) buffer
+
+-- "refused "
+unfoldable pub refusedWord : List ℕ
+refusedWord = 114 ∷ 101 ∷ 102 ∷ 117 ∷ 115 ∷ 101 ∷ 100 ∷ 32 ∷ []
+
+-- "`refused` with number, table (0 header) and record (0)", as `refused 11 0 0`
+unfoldable pub refusedText : ℕ → ℕ → ℕ → List ℕ
+refusedText number table recordNumber = refusedWord ++ line number (table ∷ recordNumber ∷ [])
+
+-- the most bytes of it: the word's 8, three numbers of 20 digits, two spaces and the newline
+abbrev pub refusedRoom : ℕ
+refusedRoom = 71

@@ -1,0 +1,27 @@
+-- Text as bytes of ASCII: numbers in decimal, and lines of them. Assumes nothing.
+use Prim.Native.Nat.{ℕ, zero, suc, _+_, _/_, _%_}
+use mathlib.Core.Bool.{cond}
+use mathlib.Core.List.{List, [], _∷_, _++_}
+use lib.Dec.{ltb}
+
+-- the byte of a digit: `0` is 48
+abbrev pub digit : ℕ → ℕ
+digit n = 48 + n
+
+-- the decimal digits of a number that has at most `most` of them, the most significant first
+abbrev pub decimalWithin : ℕ → ℕ → List ℕ
+decimalWithin zero n = []
+decimalWithin (suc most) n = cond (ltb n 10) (digit n ∷ []) (decimalWithin most (n / 10) ++ (digit (n % 10) ∷ []))
+
+-- a number below 2^64 in decimal, with no zeros in front
+unfoldable pub decimal : ℕ → List ℕ
+decimal n = decimalWithin 20 n
+
+-- numbers in decimal, each behind a space
+abbrev pub spaced : List ℕ → List ℕ
+spaced [] = []
+spaced (n ∷ ns) = (32 ∷ decimal n) ++ spaced ns
+
+-- a line of numbers with single spaces between, and its newline
+unfoldable pub line : ℕ → List ℕ → List ℕ
+line first rest = decimal first ++ (spaced rest ++ (10 ∷ []))

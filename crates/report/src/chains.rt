@@ -1,0 +1,26 @@
+// The used chains, ascending.
+ghost use mathlib.Core.Bool.{true};
+ghost use mathlib.Core.Path.{_≡_};
+ghost use Rattle.book_words.specs.Soundness.{sound};
+ghost use Rattle.report.specs.Chains.{NextUsed};
+
+// The last chain.
+pub const LAST: u64 = 10_000;
+
+// The first used chain after this one, or one past the last where there is none.
+pub fn next_used(book: &[u64], after: u64) -> u64
+    requires { ⌜ sound (now book) ≡ true ⌝ }
+    ensures { λ r. ⌜ NextUsed (now (book .entry)) after r ⌝ }
+{
+    let count = book[book_words::ELEMENTS] as usize;
+    let mut next = LAST + 1;
+    let mut place = 0;
+    while place < count {
+        let chain = book[book_words::FIRST_ELEMENT + book_words::ELEMENT_WORDS * place + 1];
+        if (after < chain) & (chain < next) {
+            next = chain;
+        }
+        place += 1;
+    }
+    next
+}

@@ -1,0 +1,69 @@
+// Text put into a buffer at a position: bytes, numbers in decimal, and lines of numbers. Each function answers the position
+// behind what it put.
+ghost use mathlib.Core.Path.{_≡_};
+ghost use Prim.Native.Nat.{_+_, _≤_};
+ghost use lib.ListN.{length};
+ghost use lib.Seq.{sets};
+ghost use Rattle.report.specs.Text.{decimal, line};
+
+// Puts bytes.
+pub fn put_bytes(bytes: &[u8], out: &mut [u8], at: usize) -> usize
+    requires { ⌜ at + length (now bytes) ≤ length (now out) ⌝ }
+    ensures { λ r. ⌜ r ≡ at + length (now (bytes .entry)) ⌝ }
+    ensures { λ _. ⌜ now (out .exit) ≡ sets (now (out .entry)) at (now (bytes .entry)) ⌝ }
+{
+    let mut i = 0;
+    while i < bytes.len() {
+        out[at + i] = bytes[i];
+        i += 1;
+    }
+    at + i
+}
+
+// How many digits a number has.
+fn digit_count(number: u64) -> usize
+    ensures { λ r. ⌜ r ≡ length (decimal number) ⌝ }
+{
+    let mut count = 1;
+    let mut rest = number;
+    while rest > 9 {
+        count += 1;
+        rest /= 10;
+    }
+    count
+}
+
+// Puts a number in decimal, the last digit first.
+fn put_number(number: u64, out: &mut [u8], at: usize) -> usize
+    requires { ⌜ at + length (decimal number) ≤ length (now out) ⌝ }
+    ensures { λ r. ⌜ r ≡ at + length (decimal number) ⌝ }
+    ensures { λ _. ⌜ now (out .exit) ≡ sets (now (out .entry)) at (decimal number) ⌝ }
+{
+    let count = digit_count(number);
+    let mut left = count - 1;
+    let mut rest = number;
+    while left > 0 {
+        out[at + left] = b'0' + (rest % 10) as u8;
+        rest /= 10;
+        left -= 1;
+    }
+    out[at] = b'0' + (rest % 10) as u8;
+    at + count
+}
+
+// Puts a line of numbers, with single spaces between.
+pub fn put_line(first: u64, rest: &[u64], out: &mut [u8], at: usize) -> usize
+    requires { ⌜ at + length (line first (now rest)) ≤ length (now out) ⌝ }
+    ensures { λ r. ⌜ r ≡ at + length (line first (now (rest .entry))) ⌝ }
+    ensures { λ _. ⌜ now (out .exit) ≡ sets (now (out .entry)) at (line first (now (rest .entry))) ⌝ }
+{
+    let mut end = put_number(first, out, at);
+    let mut i = 0;
+    while i < rest.len() {
+        out[end] = b' ';
+        end = put_number(rest[i], out, end + 1);
+        i += 1;
+    }
+    out[end] = b'\n';
+    end + 1
+}
