@@ -14,6 +14,7 @@ import sys
 import book_checks
 import calculation
 import player
+import sheet_checks
 from second_way import one_at_a_time
 
 SEED = 26
@@ -206,4 +207,5 @@ small_numbers()
 random_numbers()
 played_records()
 book_checks.run(check)
+sheet_checks.run(check)
 print("%d checks passed" % passed)
