@@ -117,7 +117,8 @@ def bad_lines():
     bad("category kind 1 close 1.5", "`1.5` after `close`")
     bad("category kind 1 adjust", "`adjust` is no word of this record")
     bad("category kind 1: close", "`1:` after `kind`")
-    bad("entry category 1", "missing: group, quantity, operation and provision",
+    bad("entry category 1",
+        "missing: group, quantity, operation and provision",
         "entry with category, group, quantity, operation and provision")
     bad(ENTRY.replace("group 2", ""), "missing: group")
     bad(ENTRY + " chain 3", "`chain` is no word")
@@ -193,18 +194,43 @@ def commands():
 
 
 def examples():
-    with open(os.path.join(EXAMPLES, "document.txt"), "rb") as file:
-        data, problems = pack.packed(file.read().decode())
-    check(not problems and data == EXAMPLE, "document 01's example")
+    data = packed_example("document.txt")
+    check(data == EXAMPLE, "document 01's example")
     check(sheet(data) == sheet_checks.SHEET_OF_EXAMPLE, "its sheet")
-    voyage()
+    voyage(packed_example("voyage.txt"))
 
 
-def voyage():
+def packed_example(name):
+    data, problems = pack.packed(pack.read(os.path.join(EXAMPLES, name)))
+    check(not problems, name, problems)
+    return data
+
+
+def refusals():
+    """Edits of document 01's example, each with what is printed then."""
+    text = pack.read(os.path.join(EXAMPLES, "document.txt"))
+    for old, new, printed in (
+        ("entry category 1", "entry category 2", b"refused 2 2 1\n"),
+        ("kind 1", "kind 9", b"refused 3 1 1\n"),
+        ("chain 4", "chain 0", b"refused 3 3 2\n"),
+        ("chain 4 code 0", "chain 4 code 100", b"refused 6 3 2\n"),
+        ("mass 1_000", "mass 0", b"refused 7 3 3\n"),
+        ("category kind 1 close", "category kind 1\n" * 17,
+         b"refused 8 1 17\n"),
+        ("group 0", "group 2", b"refused 9 4 1\n"),
+        ("quantity 12_000_000", "quantity 1_000_000_000_000",
+         b"refused 10 2 1\n"),
+        ("category kind 1 close", "category kind 1 close 2",
+         b"refused 13 1 1\n"),
+        ("amount 1_000", "amount 1_000 adjust", b"refused 13 3 1\n"),
+    ):
+        check(old in text, "the example has", old)
+        data, problems = pack.packed(text.replace(old, new))
+        check(not problems and sheet(data) == printed, "refused", new, printed)
+
+
+def voyage(data):
     """It has what it is said to have."""
-    data, problems = pack.packed(pack.read(os.path.join(EXAMPLES,
-                                                        "voyage.txt")))
-    check(not problems, "voyage", problems)
     categories, entries, elements = (table_records(data, table)
                                      for table in (1, 2, 3))
     check({kind for kind, _ in categories} == {1, 2, 3, 4}, "every kind")
@@ -228,4 +254,5 @@ widths()
 too_many_bytes()
 commands()
 examples()
+refusals()
 check.end()
