@@ -4,9 +4,10 @@
     python3 tools/check_sheets.py PROGRAM [SEED]
 
 PROGRAM is the path of an executable that prints the sheet of the file on its
-standard input. The seed makes other random files. Prints `N sheets agree`, or
-the first difference with exit status 1. Nothing may come on standard error,
-except where the output cannot be written: then a line there has to say so.
+standard input. The seed makes other random files. Nothing may come on
+standard error, except where the sheet cannot be written: then a line there
+has to say so. Prints `N sheets agree, M failing writes are told of`, or the
+first difference with exit status 1.
 """
 
 import os
@@ -240,28 +241,47 @@ def says_that_output_is_closed(program, data):
     says_so(run(program, data, None, lambda: os.close(1)))
 
 
-def runs(seed):
-    """For each run a name, what is checked, the file, and what else is
-    told."""
+# The runs: a name, what is checked, the file, and what else is told.
+
+def sheets(seed):
     for name, data in all_files(seed):
         yield name, prints_sheet, data
     full = file_of(*full_parts())
+    longest = cut_to(full, MOST_BYTES)
     for size in (1, 7, 31, 32, 200):
         yield ("the example in pieces of %d bytes" % size,
                prints_sheet_of_pieces, EXAMPLE, size)
     for size in (100, 4095, 4097, 10_000):
-        for name, data in (
-            ("a full book", full), ("the longest file",
-                                    cut_to(full, MOST_BYTES)),
-            ("a byte too many", cut_to(full, MOST_BYTES) + b"\0"),
-        ):
+        for name, data in (("a full book", full),
+                           ("the longest file", longest),
+                           ("a byte too many", longest + b"\0")):
             yield ("%s in pieces of %d bytes" % (name, size),
                    prints_sheet_of_pieces, data, size)
+
+
+def failing_writes():
     for name, data in (("document 01's example", EXAMPLE),
-                       ("a full book", full), ("a heading", file_of()),
-                       ("a refused file", b"")):
+                       ("a full book", file_of(*full_parts())),
+                       ("a heading", file_of()), ("a refused file", b"")):
         yield name + ", output full", says_that_output_is_full, data
         yield name + ", output closed", says_that_output_is_closed, data
+
+
+def count_passed(program, runs):
+    """How many runs there were; the first that does not pass ends all."""
+    passed = 0
+    for name, check, data, *more in runs:
+        try:
+            check(program, data, *more)
+        except subprocess.TimeoutExpired:
+            raise SystemExit("%s: no end within %d seconds" % (name, SECONDS))
+        except OSError as error:
+            raise SystemExit("the program does not run: %s" % error)
+        except Differs as differs:
+            raise SystemExit("%s: %s\n  file of %d bytes %s" % (
+                name, differs, len(data), data[:400].hex()))
+        passed += 1
+    return passed
 
 
 def main(arguments):
@@ -270,22 +290,10 @@ def main(arguments):
         print("usage: check_sheets.py PROGRAM [SEED]", file=sys.stderr)
         return 2
     program = os.path.abspath(arguments[0])
-    checked = 0
-    for name, check, data, *more in runs(int([*arguments[1:], SEED][0])):
-        try:
-            check(program, data, *more)
-        except subprocess.TimeoutExpired:
-            print("%s: no end within %d seconds" % (name, SECONDS))
-            return 1
-        except OSError as error:
-            print("the program does not run: %s" % error)
-            return 1
-        except Differs as differs:
-            print("%s: %s" % (name, differs))
-            print("  file of %d bytes %s" % (len(data), data[:400].hex()))
-            return 1
-        checked += 1
-    print("%d sheets agree" % checked)
+    seed = int(arguments[1]) if len(arguments) == 2 else SEED
+    print("%d sheets agree, %d failing writes are told of" % (
+        count_passed(program, sheets(seed)),
+        count_passed(program, failing_writes())))
     return 0
 
 
