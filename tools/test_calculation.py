@@ -9,26 +9,19 @@ Prints `N checks passed`, or what failed with exit status 1.
 import itertools
 import random
 import struct
-import sys
 
 import book_checks
 import calculation
 import player
+import sheet_checks
+from checking import Checks
 from second_way import one_at_a_time
 
 SEED = 26
 LIMIT = 10 ** 18
 LARGEST = 2 ** 64 - 1
 
-passed = 0
-
-
-def check(holds, *what):
-    global passed
-    if not holds:
-        print("failed:", *what)
-        sys.exit(1)
-    passed += 1
+check = Checks()
 
 
 def check_division(pool, weights):
@@ -206,4 +199,5 @@ small_numbers()
 random_numbers()
 played_records()
 book_checks.run(check)
-print("%d checks passed" % passed)
+sheet_checks.run(check)
+check.end()
