@@ -3,7 +3,7 @@ use Prim.Native.Nat.{ℕ, zero, suc, _+_, _-_, _*_, _≤_, _<_, _/_, _%_, _^_}
 use native.Mathlib.Nat.{pow-suc, add-suc}
 use native.Mathlib.Numerals.{add-one, sub-one}
 use native.Mathlib.Omega.{arith}
-use mathlib.Core.Bool.{cond}
+use mathlib.Core.Bool.{Bool, true, false, cond}
 use mathlib.Core.Logic.{_⊎_, inl, inr, ⊎-elim}
 use mathlib.Core.Path.{_≡_, refl, sym, _∙_, ap}
 use mathlib.Core.List.{List, [], _∷_, _++_, append-nil}
@@ -71,6 +71,19 @@ within-most (suc most) k n h = go (below-or-not n 10) k h (λ j. within-most mos
 pub digits-most : (k n : ℕ) → n < 10 ^ suc k → length (decimal n) ≤ suc k
 unfolding decimal
 digits-most k n h = within-most 20 k n h
+
+-- any number has at most 20
+fuel-most : (most n : ℕ) → length (decimalWithin most n) ≤ most
+fuel-most zero n = omega arith
+fuel-most (suc most) n = go (ltb n 10) (fuel-most most (n / 10))
+  where
+    go : (t : Bool) → length (decimalWithin most (n / 10)) ≤ most → length (cond t (digit n ∷ []) (decimalWithin most (n / 10) ++ (digit (n % 10) ∷ []))) ≤ suc most
+    go true shorter = omega arith
+    go false shorter = rw length-append (omega (arith, shorter))
+
+pub digits-few : (n : ℕ) → length (decimal n) ≤ 20
+unfolding decimal
+digits-few n = fuel-most 20 n
 
 -- a number is stored from its last digit on: those behind the first `suc left` digits are there, and these are the digits of `rest`
 pub record Stored (number at : ℕ) (out₀ : List ℕ) (left rest : ℕ) (out : List ℕ) : Type 0 where

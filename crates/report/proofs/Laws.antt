@@ -1,11 +1,10 @@
 -- The laws of a sheet, for the crates above. Assumes nothing.
-use Prim.Native.Nat.{ℕ, _≤_, _<_, _^_}
+use Prim.Native.Nat.{ℕ, _≤_}
 use mathlib.Core.Bool.{true, false}
-use mathlib.Core.List.{List}
+use mathlib.Core.List.{List, _++_}
 use mathlib.Core.Path.{_≡_}
 use borrow.Author.Tests.{le-leb}
 use lib.ListN.{length, drop}
-use mathlib.Core.List.{_++_}
 use Rattle.book_words.specs.Soundness.{sound}
 use Rattle.report.specs.declared.printing.Printed.the-variants.{Written, Refused}
 use Rattle.report.specs.Printing.{answerFor, bufferWith}
@@ -35,9 +34,8 @@ module _ (ws : List ℕ) where
   sheet-fits fine = sheet-most ws fine
 
 -- so does the line of a refusal
-pub refused-fits : (number table recordNumber : ℕ) → number < 2 ^ 64 → table < 2 ^ 64 → recordNumber < 2 ^ 64
-    → length (refusedText number table recordNumber) ≤ refusedRoom
-refused-fits number table recordNumber one two three = refused-most number table recordNumber one two three
+pub refused-fits : (number table recordNumber : ℕ) → length (refusedText number table recordNumber) ≤ refusedRoom
+refused-fits number table recordNumber = refused-most number table recordNumber
 
 -- a text that fits is written whole, and the bytes past it stay as they were
 pub fitting-written : (text : List ℕ) (room : ℕ) → length text ≤ room → answerFor text room ≡ Written (length text)

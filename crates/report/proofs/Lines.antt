@@ -1,5 +1,5 @@
 -- Lines of numbers, and the lines of a sheet. Assumes nothing.
-use Prim.Native.Nat.{ℕ, zero, suc, _+_, _*_, _-_, _≤_, _<_, _^_}
+use Prim.Native.Nat.{ℕ, zero, suc, _+_, _*_, _-_, _≤_, _<_}
 use native.Mathlib.Nat.{eq-or-lt-of-le, le-refl}
 use native.Mathlib.Numerals.{add-one, sub-one}
 use native.Mathlib.Omega.{arith}
@@ -24,7 +24,7 @@ use Rattle.book_words.proofs.Facts.{sound-counted}
 use Rattle.report.specs.Text.{decimal, spaced, line}
 use Rattle.report.specs.Chains.{NextUsed}
 use Rattle.report.specs.Sheet.{heading, isUsed, chainLine, linesTo, chainLines, sheetText, lineRoom, sheetRoom, refusedWord, refusedText, refusedRoom}
-use Rattle.report.proofs.Decimals.{digits-most}
+use Rattle.report.proofs.Decimals.{digits-most, digits-few}
 use Rattle.report.proofs.Stores.{sets-append}
 use Rattle.report.proofs.Used.{elements-by-chain}
 
@@ -76,17 +76,16 @@ unfolding line
 line-of-two f a b = simp length-append (omega arith)
 
 -- so the line of a refusal has room
-pub refused-most : (number table recordNumber : ℕ) → number < 2 ^ 64 → table < 2 ^ 64 → recordNumber < 2 ^ 64
-    → length (refusedText number table recordNumber) ≤ refusedRoom
+pub refused-most : (number table recordNumber : ℕ) → length (refusedText number table recordNumber) ≤ refusedRoom
 unfolding refusedText refusedWord
-refused-most number table recordNumber one two three =
+refused-most number table recordNumber =
     omega (
       arith,
       length-append refusedWord (line number (table ∷ recordNumber ∷ [])),
       line-of-two number table recordNumber,
-      digits-most 19 number (omega arith),
-      digits-most 19 table (omega arith),
-      digits-most 19 recordNumber (omega arith),
+      digits-few number,
+      digits-few table,
+      digits-few recordNumber,
     )
 
 module _ (ws : List ℕ) where

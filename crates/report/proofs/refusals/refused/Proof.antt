@@ -1,6 +1,5 @@
 -- `report::refusals::refused` meets its contract. Assumes nothing.
 use Prim.Native.Nat.{ℕ}
-use native.Mathlib.Omega.{arith}
 use mathlib.Core.List.{List}
 use mathlib.Core.Path.{_∙_, ap}
 use borrow.Author.Needs.{needs}
@@ -27,7 +26,7 @@ written : (c : tie.After-write-refused) → InRoom (refusedText (c .before .befo
 written c =
     let a = c .before .before .before .args in
     in-room refusedRoom _ _ _ (c .write-refused .ensures .1) (c .write-refused .ensures .0)
-    (refused-most (a .number) (a .table) (a .«record») (omega arith) (omega arith) (omega arith))
+    (refused-most (a .number) (a .table) (a .«record»))
 
 array-share-prefix-room : tie.Need-array-share-prefix-room
 array-share-prefix-room c = written (c .before) .inside

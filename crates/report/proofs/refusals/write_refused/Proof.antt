@@ -38,7 +38,7 @@ put-line-requires c κs =
       put .ensures .0,
       ap length (put .ensures .1) ∙ length-sets (a .out .now) 0 refusedWord,
       length-append refusedWord (line (a .number) (a .table ∷ a .«record» ∷ [])),
-      refused-most (a .number) (a .table) (a .«record») (omega arith) (omega arith) (omega arith),
+      refused-most (a .number) (a .table) (a .«record»),
     )
 
 same-length : tie.Need-same-length

@@ -1,0 +1,65 @@
+-- What is printed has room, and so is printed whole. Assumes nothing.
+use Prim.Native.Nat.{ℕ, _≤_}
+use native.Mathlib.Omega.{arith}
+use mathlib.Core.Bool.{true}
+use mathlib.Core.List.{List}
+use mathlib.Core.Path.{_≡_, refl, sym, _∙_, ap}
+use lib.ListN.{length, length-append, take, drop}
+use lib.Seq.{take-append-seam}
+use Rattle.book_file.proofs.Laws.{loaded-sound}
+use Rattle.book_file.specs.Answers.{placeNumbers}
+use Rattle.book_file.specs.Loading.{loadAnswer, loadBook}
+use Rattle.book_file.specs.declared.answers.Load.{Load}
+use Rattle.book_file.specs.declared.answers.Load.the-variants.{Loaded, Stopped}
+use Rattle.book_file.specs.declared.answers.Place.{Place}
+use Rattle.book_words.specs.Soundness.{sound}
+use Rattle.report.proofs.Laws.{sheet-fits, refused-fits, fitting-written, fitting-buffer}
+use Rattle.report.specs.Printing.{answerFor, bufferWith}
+use Rattle.report.specs.Sheet.{sheetText, sheetRoom}
+use Rattle.report.specs.declared.printing.Printed.{Printed}
+use Rattle.quaymeter.specs.Program.{refusedLine, textFor, printedFrom, lengthOf}
+
+-- a text that fits is printed whole
+pub whole-length : (text : List ℕ) (room : ℕ) (answer : Printed) → answer ≡ answerFor text room → length text ≤ room → lengthOf answer ≡ length text
+whole-length text room answer is h = ap lengthOf (is ∙ fitting-written text room h)
+
+-- the sheet of a book, or the line of a refusal
+fits-for : (answer : Load) (book : List ℕ) → (answer ≡ Loaded → sound book ≡ true) → length (textFor answer book) ≤ sheetRoom
+fits-for Loaded book fine = sheet-fits book (fine refl)
+fits-for (Stopped number place) book fine =
+    let n = placeNumbers number place in
+    omega (arith, refused-fits (n .refusal) (n .table) (n .«record»))
+
+-- by the answer of loading
+pub printed-book : (words file book : List ℕ) (answer : Load) → answer ≡ Loaded → answer ≡ loadAnswer words file → book ≡ loadBook words file → sheetText book ≡ printedFrom words file
+unfolding printedFrom
+printed-book words file book answer told is left =
+    ap (λ (b : List ℕ). textFor Loaded b) left ∙ ap (λ (a : Load). textFor a (loadBook words file)) (sym told ∙ is)
+
+pub printed-refusal : (words file : List ℕ) (answer : Load) (number : ℕ) (place : Place) → answer ≡ Stopped number place → answer ≡ loadAnswer words file
+    → refusedLine (placeNumbers number place) ≡ printedFrom words file
+unfolding printedFrom
+printed-refusal words file answer number place told is = ap (λ (a : Load). textFor a (loadBook words file)) (sym told ∙ is)
+
+-- so what is printed fits
+pub printed-fits : (words file : List ℕ) → length (printedFrom words file) ≤ sheetRoom
+unfolding printedFrom
+printed-fits words file = fits-for (loadAnswer words file) (loadBook words file) (loaded-sound words file)
+
+-- and the first bytes of the buffer, as many as it is long, are it
+pub record Whole (text out : List ℕ) (count : ℕ) : Type 0 where
+  pub inside : count ≤ length out
+  pub counted : count ≡ length (take count out)
+  pub is-text : take count out ≡ text
+
+pub printed-whole : (words file buffer out : List ℕ) (count : ℕ) → length buffer ≡ sheetRoom → count ≡ length (printedFrom words file)
+    → out ≡ bufferWith (printedFrom words file) buffer → Whole (printedFrom words file) out count
+printed-whole words file buffer out count room counted is =
+    let text = printedFrom words file in
+    let whole = is ∙ fitting-buffer text buffer (omega (arith, room, printed-fits words file)) in
+    let front : take count out ≡ text = rw (whole, counted) (take-append-seam text (drop (length text) buffer)) in
+    record {
+      inside = omega (arith, counted, ap length whole, length-append text (drop (length text) buffer));
+      counted = counted ∙ ap length (sym front);
+      is-text = front;
+    }

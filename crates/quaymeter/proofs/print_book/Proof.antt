@@ -1,0 +1,38 @@
+-- `quaymeter::print_book` meets its contract. Assumes nothing.
+use native.Mathlib.Omega.{arith}
+use mathlib.Core.Path.{_∙_}
+use borrow.Author.Needs.{needs}
+use lib.ListN.{length}
+use Rattle.report.proofs.Laws.{sheet-answered, sheet-printed, sheet-fits}
+use Rattle.report.specs.Sheet.{sheetText}
+use Rattle.quaymeter.proofs.Printing.{whole-length}
+use Rattle.quaymeter.proofs.print_book.Statement.{statement}
+use Rattle.quaymeter.proofs.print_book.Tie as tie
+use Rattle.quaymeter.proofs.print_book.Reads as reads
+use Rattle.quaymeter.proofs.print_book.Lts as lts
+use Rattle.quaymeter.proofs.length_of.Reads as length-of-reads
+use Rattle.report.proofs.sheet_sound.Reads as sheet-sound-reads
+
+sheet-sound-requires : tie.Need-sheet-sound-requires
+sheet-sound-requires c κs = search needs
+
+length-of-requires : tie.Need-length-of-requires
+length-of-requires c κs = search needs
+
+same-length : tie.Need-same-length
+same-length c = search needs
+
+returns : tie.Need-returns
+returns c =
+    let start = c .before .before .before .before .before .before .before in
+    let over = c .before .before .before .sheet-sound in
+    let book = start .args .book .now in
+    let out = start .args .out .now in (
+      c .length-of .ensures
+      ∙ whole-length (sheetText book) (length out) (over .result) (over .ensures .0 ∙ sheet-answered book (length out) (start .pre .0))
+          (omega (arith, start .pre .1, sheet-fits book (start .pre .0))),
+      over .ensures .1 ∙ sheet-printed book out (start .pre .0),
+    )
+
+pub print-book-spec : {M : Type 1} → statement M
+print-book-spec = tie.close (tie.spec sheet-sound-requires length-of-requires same-length returns)

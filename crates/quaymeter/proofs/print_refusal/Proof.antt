@@ -1,0 +1,48 @@
+-- `quaymeter::print_refusal` meets its contract. Assumes nothing.
+use native.Mathlib.Omega.{arith}
+use mathlib.Core.Path.{_≡_, _∙_, ap}
+use borrow.Author.Needs.{needs}
+use lib.ListN.{length}
+use Rattle.book_file.specs.Answers.{placeNumbers}
+use Rattle.book_file.specs.declared.answers.Numbers.{Numbers}
+use Rattle.report.proofs.Laws.{refused-fits}
+use Rattle.report.specs.Printing.{answerFor, bufferWith}
+use Rattle.quaymeter.specs.Program.{refusedLine}
+use Rattle.quaymeter.proofs.Printing.{whole-length}
+use Rattle.quaymeter.proofs.print_refusal.Statement.{statement}
+use Rattle.quaymeter.proofs.print_refusal.Tie as tie
+use Rattle.quaymeter.proofs.print_refusal.Reads as reads
+use Rattle.quaymeter.proofs.print_refusal.Lts as lts
+use Rattle.book_file.proofs.numbers_of.Reads as numbers-of-reads
+use Rattle.quaymeter.proofs.length_of.Reads as length-of-reads
+use Rattle.report.proofs.refused.Reads as refused-reads
+
+numbers-of-requires : tie.Need-numbers-of-requires
+numbers-of-requires c κs = search needs
+
+refused-requires : tie.Need-refused-requires
+refused-requires c κs = search needs
+
+length-of-requires : tie.Need-length-of-requires
+length-of-requires c κs = search needs
+
+same-length : tie.Need-same-length
+same-length c = search needs
+
+returns : tie.Need-returns
+returns c =
+    let start = c .before .before .before .before .before .before .before in
+    let numbers = c .before .before .before .before .before .numbers-of .ensures in
+    let over = c .before .before .before .refused in
+    let out = start .args .out .now in
+    let n = placeNumbers (start .args .number) (start .args .place) in (
+      c .length-of .ensures
+      ∙ whole-length (refusedLine n) (length out) (over .result) (over .ensures .0 ∙ ap (λ (m : Numbers). answerFor (refusedLine m) (length out)) numbers)
+          (omega (arith, start .pre, refused-fits (n .refusal) (n .table) (n .«record»))),
+      over .ensures .1 ∙ ap (λ (m : Numbers). bufferWith (refusedLine m) out) numbers,
+    )
+
+pub print-refusal-spec : {M : Type 1} → statement M
+print-refusal-spec =
+    tie.close
+    (tie.spec numbers-of-requires refused-requires length-of-requires same-length returns)

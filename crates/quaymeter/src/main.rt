@@ -1,0 +1,87 @@
+// Reads a file from standard input and prints its sheet, or the line of its refusal, to standard output.
+ghost use mathlib.Core.Bool.{true};
+ghost use mathlib.Core.Path.{_≡_};
+ghost use lib.ListN.{length};
+ghost use Rattle.book_file.specs.Answers.{placeNumbers};
+ghost use Rattle.book_file.specs.Loading.{loadBook};
+ghost use Rattle.book_words.specs.Soundness.{sound};
+ghost use Rattle.report.specs.Printing.{bufferWith};
+ghost use Rattle.report.specs.Sheet.{sheetText, sheetRoom};
+ghost use Rattle.quaymeter.specs.Program.{refusedLine, printedFrom, printed, lengthOf};
+use book_file::Load;
+use book_file::Place;
+use libc::STDERR_FILENO;
+use libc::STDIN_FILENO;
+use libc::STDOUT_FILENO;
+use report::Printed;
+
+// One byte more than the longest file: a longer input is seen to be too long, and is refused.
+const INPUT_ROOM: usize = 16_385;
+
+// The whole job, from bytes to bytes: what is printed for a file. Answers its length.
+fn print_sheet(file: &[u8], out: &mut [u8]) -> usize
+    requires { ⌜ length (now out) ≡ sheetRoom ⌝ }
+    ensures { λ r. ⌜ r ≡ length (printed (now (file .entry))) ⌝ }
+    ensures { λ _. ⌜ now (out .exit) ≡ bufferWith (printed (now (file .entry))) (now (out .entry)) ⌝ }
+{
+    let mut book = [0u64; book_words::BOOK_LENGTH];
+    print_loaded(file, &mut book, out)
+}
+
+// The same, with the book that the file is loaded into.
+fn print_loaded(file: &[u8], book: &mut [u64], out: &mut [u8]) -> usize
+    requires { ⌜ length (now out) ≡ sheetRoom ⌝ }
+    ensures { λ r. ⌜ r ≡ length (printedFrom (now (book .entry)) (now (file .entry))) ⌝ }
+    ensures { λ _. ⌜ now (book .exit) ≡ loadBook (now (book .entry)) (now (file .entry)) ⌝ }
+    ensures { λ _. ⌜ now (out .exit) ≡ bufferWith (printedFrom (now (book .entry)) (now (file .entry))) (now (out .entry)) ⌝ }
+{
+    let answer = book_file::load(book, file);
+    match answer {
+        Load::Loaded => print_book(book, out),
+        Load::Stopped(number, place) => print_refusal(number, place, out),
+    }
+}
+
+// Prints the sheet of a loaded book.
+fn print_book(book: &[u64], out: &mut [u8]) -> usize
+    requires { ⌜ sound (now book) ≡ true ⌝ }
+    requires { ⌜ length (now out) ≡ sheetRoom ⌝ }
+    ensures { λ r. ⌜ r ≡ length (sheetText (now (book .entry))) ⌝ }
+    ensures { λ _. ⌜ now (out .exit) ≡ bufferWith (sheetText (now (book .entry))) (now (out .entry)) ⌝ }
+{
+    length_of(report::sheet_sound(book, out))
+}
+
+// Prints the line of a stop at a place.
+fn print_refusal(number: u64, place: Place, out: &mut [u8]) -> usize
+    requires { ⌜ length (now out) ≡ sheetRoom ⌝ }
+    ensures { λ r. ⌜ r ≡ length (refusedLine (placeNumbers number place)) ⌝ }
+    ensures { λ _. ⌜ now (out .exit) ≡ bufferWith (refusedLine (placeNumbers number place)) (now (out .entry)) ⌝ }
+{
+    let numbers = book_file::numbers_of(Load::Stopped(number, place));
+    length_of(report::refused(numbers.refusal, numbers.table, numbers.record, out))
+}
+
+// How many bytes are printed.
+fn length_of(printed: Printed) -> usize
+    ensures { λ r. ⌜ r ≡ lengthOf printed ⌝ }
+{
+    match printed {
+        Printed::Written(count) => count,
+        Printed::TooSmall(_) => 0,
+        Printed::Refused(_) => 0,
+    }
+}
+
+fn main() {
+    let mut input = [0u8; INPUT_ROOM];
+    let mut out = [0u8; report::SHEET_ROOM];
+    let got = io::read_full(STDIN_FILENO, &mut input);
+    let count = print_sheet(&input[..got], &mut out);
+    if !io::write_all(STDOUT_FILENO, &out[..count]) {
+        io::write_all(
+            STDERR_FILENO,
+            b"quaymeter: the sheet could not be written\n",
+        );
+    }
+}
