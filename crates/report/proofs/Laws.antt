@@ -1,10 +1,13 @@
 -- The laws of a sheet, for the crates above. Assumes nothing.
-use Prim.Native.Nat.{ℕ, _≤_}
+use Prim.Native.Nat.{ℕ, _+_, _≤_}
+use native.Mathlib.Nat.{zero-add}
+use native.Mathlib.Omega.{arith}
 use mathlib.Core.Bool.{true, false}
 use mathlib.Core.List.{List, _++_}
-use mathlib.Core.Path.{_≡_}
+use mathlib.Core.Path.{_≡_, sym, _∙_, ap}
 use borrow.Author.Tests.{le-leb}
 use lib.ListN.{length, drop}
+use lib.Seq.{sets, sets-eq}
 use Rattle.book_words.specs.Soundness.{sound}
 use Rattle.report.specs.declared.printing.Printed.the-variants.{Written, Refused}
 use Rattle.report.specs.Printing.{answerFor, bufferWith}
@@ -45,3 +48,12 @@ fitting-written text room h = rw (le-leb (length text) room h)
 pub fitting-buffer : (text buffer : List ℕ) → length text ≤ length buffer → bufferWith text buffer ≡ text ++ drop (length text) buffer
 unfolding bufferWith
 fitting-buffer text buffer h = rw (le-leb (length text) (length buffer) h)
+
+-- so where it is stored in the buffer itself
+pub stored-printed : (text buffer after : List ℕ) (count : ℕ) → length text ≤ length buffer → count ≡ length text → after ≡ sets buffer 0 text
+    → (Written count ≡ answerFor text (length buffer)) × (after ≡ bufferWith text buffer)
+stored-printed text buffer after count h counted stored =
+    let fits : 0 + length text ≤ length buffer = omega (arith, h) in (
+      ap Written counted ∙ sym (fitting-written text (length buffer) h),
+      stored ∙ (rw zero-add at (sets-eq text buffer 0 fits)) ∙ sym (fitting-buffer text buffer h),
+    )

@@ -6,6 +6,7 @@ ghost use lib.ListN.{length};
 ghost use lib.Seq.{sets};
 ghost use Rattle.book_words.specs.Measures.{isChain};
 ghost use Rattle.book_words.specs.Soundness.{sound};
+ghost use Rattle.report.specs.Printing.{answerFor, bufferWith};
 ghost use Rattle.report.specs.Sheet.{chainLine, chainLines, sheetText, sheetRoom, sheetAnswer, sheetBuffer};
 use crate::chains;
 use crate::printing;
@@ -32,6 +33,18 @@ pub fn sheet_sound(book: &[u64], out: &mut [u8]) -> Printed
     ensures { λ r. ⌜ r ≡ sheetAnswer (now (book .entry)) (length (now (out .entry))) ⌝ }
     ensures { λ _. ⌜ now (out .exit) ≡ sheetBuffer (now (book .entry)) (now (out .entry)) ⌝ }
 {
+    if SHEET_ROOM <= out.len() {
+        return Printed::Written(write_sheet(book, out));
+    }
+    print_within(book, out)
+}
+
+// The same, for a buffer that may be too small: the text is written beside it first.
+fn print_within(book: &[u64], out: &mut [u8]) -> Printed
+    requires { ⌜ sound (now book) ≡ true ⌝ }
+    ensures { λ r. ⌜ r ≡ answerFor (sheetText (now (book .entry))) (length (now (out .entry))) ⌝ }
+    ensures { λ _. ⌜ now (out .exit) ≡ bufferWith (sheetText (now (book .entry))) (now (out .entry)) ⌝ }
+{
     let mut room = [0u8; SHEET_ROOM];
     let count = write_sheet(book, &mut room);
     printing::hand_over(&room[..count], out)
@@ -40,7 +53,7 @@ pub fn sheet_sound(book: &[u64], out: &mut [u8]) -> Printed
 // Writes the text of a sheet from the start of the buffer, and answers its length.
 fn write_sheet(book: &[u64], out: &mut [u8]) -> usize
     requires { ⌜ sound (now book) ≡ true ⌝ }
-    requires { ⌜ length (now out) ≡ sheetRoom ⌝ }
+    requires { ⌜ sheetRoom ≤ length (now out) ⌝ }
     ensures { λ r. ⌜ r ≡ length (sheetText (now (book .entry))) ⌝ }
     ensures { λ _. ⌜ now (out .exit) ≡ sets (now (out .entry)) 0 (sheetText (now (book .entry))) ⌝ }
 {

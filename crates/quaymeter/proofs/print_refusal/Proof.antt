@@ -37,7 +37,7 @@ returns c =
     let out = start .args .out .now in
     let n = placeNumbers (start .args .number) (start .args .place) in (
       c .length-of .ensures
-      ∙ whole-length (refusedLine n) (length out) (over .result) (over .ensures .0 ∙ ap (λ (m : Numbers). answerFor (refusedLine m) (length out)) numbers)
+          ∙ whole-length (refusedLine n) (length out) (over .result) (over .ensures .0 ∙ ap (λ (m : Numbers). answerFor (refusedLine m) (length out)) numbers)
           (omega (arith, start .pre, refused-fits (n .refusal) (n .table) (n .«record»))),
       over .ensures .1 ∙ ap (λ (m : Numbers). bufferWith (refusedLine m) out) numbers,
     )

@@ -1,63 +1,54 @@
--- `report::sheets::sheet_sound` meets its contract. Assumes nothing.
-use Prim.Native.Nat.{ℕ}
-use mathlib.Core.List.{List}
-use mathlib.Core.Path.{_∙_, ap, sym}
+-- `report::sheets::sheet_sound` meets its contract, in a buffer with room for any sheet and in a shorter one. Assumes nothing.
+use native.Mathlib.Omega.{arith}
+use mathlib.Core.Path.{_∙_, sym}
 use borrow.Author.Needs.{needs}
-use lib.ListN.{length, length-replicate}
-use Rattle.report.specs.Printing.{answerFor, bufferWith}
-use Rattle.report.specs.Sheet.{sheetText, sheetRoom}
-use Rattle.report.proofs.Laws.{sheet-answered, sheet-printed}
-use Rattle.report.proofs.Lines.{sheet-most}
-use Rattle.report.proofs.Stores.{InRoom, in-room}
+use lib.ListN.{length}
+use Rattle.report.specs.Sheet.{sheetText}
+use Rattle.report.proofs.Laws.{sheet-answered, sheet-printed, sheet-fits, stored-printed}
 use Rattle.report.proofs.sheets.sheet_sound.Statement.{statement}
 use Rattle.report.proofs.sheets.sheet_sound.Tie as tie
 use Rattle.report.proofs.sheets.sheet_sound.Reads as reads
 use Rattle.report.proofs.sheets.sheet_sound.Lts as lts
-use Rattle.report.proofs.printing.hand_over.Reads as hand-over-reads
+use Rattle.report.proofs.sheets.print_within.Reads as print-within-reads
 use Rattle.report.proofs.sheets.write_sheet.Reads as write-sheet-reads
-
-slice-aggregate-write-sheet : tie.Need-slice-aggregate-write-sheet
-slice-aggregate-write-sheet c = search needs
 
 write-sheet-requires : tie.Need-write-sheet-requires
 write-sheet-requires c κs = search needs
-
--- the text is in the room
-written : (c : tie.After-write-sheet) → InRoom (sheetText (c .before .before .before .before .args .book .now)) (c .write-sheet .last .1 .0) (c .write-sheet .result)
-written c =
-    let start = c .before .before .before .before in
-    in-room sheetRoom _ _ _ (c .write-sheet .ensures .1) (c .write-sheet .ensures .0) (sheet-most (start .args .book .now) (start .pre))
-
-array-share-prefix-room : tie.Need-array-share-prefix-room
-array-share-prefix-room c = written (c .before) .inside
-
-slice-aggregate-hand-over : tie.Need-slice-aggregate-hand-over
-slice-aggregate-hand-over c = written (c .before .before) .counted
-
-hand-over-requires : tie.Need-hand-over-requires
-hand-over-requires c κs = search needs
 
 same-length : tie.Need-same-length
 same-length c = search needs
 
 returns : tie.Need-returns
 returns c =
-    let over = c .before .before .hand-over in
-    let start = c .before .before .before .before .before .before .before .before .before .before in
+    let start = c .before .before .before .before .before .before .before in
+    let write = c .before .before .write-sheet in
+    let book = start .args .book .now in
     let out = start .args .out .now in
-    let text = written (c .before .before .before .before .before .before) .is-text in (
-      over .ensures .0 ∙ ap (λ (t : List ℕ). answerFor t (length out)) text ∙ sym (sheet-answered (start .args .book .now) (length out) (start .pre)),
-      over .ensures .1 ∙ ap (λ (t : List ℕ). bufferWith t out) text ∙ sym (sheet-printed (start .args .book .now) out (start .pre)),
-    )
+    let room = c .before .before .before .before .if1 .taken in
+    let done = stored-printed (sheetText book) out (write .last .1 .0) (write .result) (omega (arith, room, sheet-fits book (start .pre))) (write .ensures .0) (write .ensures .1) in
+    (done .0 ∙ sym (sheet-answered book (length out) (start .pre)), done .1 ∙ sym (sheet-printed book out (start .pre)))
+
+print-within-requires : tie.Need-print-within-requires
+print-within-requires c κs = search needs
+
+same-length-2 : tie.Need-same-length-2
+same-length-2 c = search needs
+
+returns-2 : tie.Need-returns-2
+returns-2 c =
+    let start = c .before .before .before .before .before .before .before in
+    let within = c .before .before .print-within in
+    let book = start .args .book .now in
+    let out = start .args .out .now in
+    (within .ensures .0 ∙ sym (sheet-answered book (length out) (start .pre)), within .ensures .1 ∙ sym (sheet-printed book out (start .pre)))
 
 pub sheet-sound-spec : {M : Type 1} → statement M
 sheet-sound-spec =
     tie.close
     (tie.spec
-    slice-aggregate-write-sheet
     write-sheet-requires
-    array-share-prefix-room
-    slice-aggregate-hand-over
-    hand-over-requires
     same-length
-    returns)
+    returns
+    print-within-requires
+    same-length-2
+    returns-2)
