@@ -6,7 +6,7 @@ use native.Mathlib.Omega.{arith}
 use mathlib.Core.Path.{_≡_}
 use borrow.Author.Tests.{lt-ltb, le-ltb}
 use Rattle.io.specs.Digits.{digits, Fewest}
-use Rattle.replay.specs.Text.{decimalWithin}
+use Rattle.report.specs.Text.{decimalWithin}
 
 -- two digits or more: ten or more, and the number without its last digit has one digit fewer
 more-digits : (k n : ℕ) → Fewest 10 1 n (suc (suc k)) → (10 ≤ n) × Fewest 10 1 (n / 10) (suc k)
@@ -26,4 +26,4 @@ fewest-decimal zero (suc (suc k)) n h few = let z : ⊥ = omega (arith, more-dig
 fewest-decimal (suc most) (suc (suc k)) n h few =
     let more = more-digits k n few in
     let shorter : n < 10 ^ suc most * 10 = rw pow-suc at h in
-    rw (le-ltb n 10 (more .0), ← fewest-decimal most (suc k) (n / 10) (omega arith) (more .1))
+    rw (le-ltb n 10 (more .0), lt-ltb (n % 10) 10 (omega arith), ← fewest-decimal most (suc k) (n / 10) (omega arith) (more .1))

@@ -7,7 +7,8 @@ use mathlib.Core.List.{List, [], _∷_, _++_}
 use borrow.Author.Tests.{lt-ltb, le-ltb}
 use lib.ListN.{length, getD, take, drop, set}
 use lib.Seq.{length-take-le, take-all, take-suc-set, drop-cons}
-use Rattle.replay.specs.Text.{decimal, spaced, line, numbersLine, badRecord, badLine}
+use Rattle.report.specs.Text.{decimal, spaced, line}
+use Rattle.replay.specs.Text.{numbersLine, badRecord, badLine}
 use Rattle.replay.specs.Waiting.{putByte, put}
 
 -- a store behind the waiting bytes

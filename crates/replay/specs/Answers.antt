@@ -14,7 +14,7 @@ use Rattle.book_file.specs.declared.answers.Numbers.{Numbers}
 use Rattle.book_file.specs.Loading.{loadNumbers, loadBook}
 use Rattle.replay.specs.declared.output.Output.{Output}
 use Rattle.replay.specs.declared.records.Words.{Words}
-use Rattle.replay.specs.Text.{line}
+use Rattle.report.specs.Text.{line}
 use Rattle.replay.specs.Waiting.{waitingIn, put}
 
 -- what a call works on: the lent words, and the bytes that wait to be written

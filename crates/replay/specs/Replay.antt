@@ -8,7 +8,8 @@ use Rattle.apportion.specs.Places.{sumOf}
 use Rattle.apportion.specs.Dividing.{refusal, sharesAfter}
 use Rattle.replay.specs.declared.records.Words.{Words}
 use Rattle.replay.specs.declared.state.State.{State}
-use Rattle.replay.specs.Text.{line, numbersLine, badLine}
+use Rattle.report.specs.Text.{line}
+use Rattle.replay.specs.Text.{numbersLine, badLine}
 use Rattle.replay.specs.Waiting.{waitingIn, put}
 use Rattle.replay.specs.Answers.{Loan, answered}
 

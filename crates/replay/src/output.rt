@@ -1,7 +1,8 @@
 // The output buffer: bytes that wait to be written to standard output.
 ghost use mathlib.Core.Path.{_≡_};
 ghost use lib.ListN.{length};
-ghost use Rattle.replay.specs.Text.{decimal, line, numbersLine, badLine};
+ghost use Rattle.report.specs.Text.{decimal, line};
+ghost use Rattle.replay.specs.Text.{numbersLine, badLine};
 ghost use Rattle.replay.specs.Waiting.{Flushed, waitingIn, putByte, put};
 use libc::STDOUT_FILENO;
 

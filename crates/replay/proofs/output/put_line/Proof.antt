@@ -4,7 +4,7 @@ use Prim.Native.Nat.{_-_}
 use mathlib.Core.Path.{_≡_, refl}
 use borrow.Author.Needs.{needs}
 use lib.ListN.{length, drop, drop-of-length-le}
-use Rattle.replay.specs.Text.{spaced}
+use Rattle.report.specs.Text.{spaced}
 use Rattle.replay.specs.Waiting.{waitingIn, put}
 use Rattle.replay.proofs.Putting.{spaced-step, put-line}
 use Rattle.replay.proofs.output.put_line.Statement.{statement}

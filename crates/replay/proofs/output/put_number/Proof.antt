@@ -2,7 +2,7 @@
 -- Assumes nothing.
 use native.Mathlib.Omega.{arith}
 use borrow.Author.Needs.{needs}
-use Rattle.replay.specs.Text.{decimal}
+use Rattle.report.specs.Text.{decimal}
 use Rattle.replay.proofs.Decimals.{fewest-decimal}
 use Rattle.replay.proofs.output.put_number.Statement.{statement}
 use Rattle.replay.proofs.output.put_number.Tie as tie
