@@ -1,8 +1,11 @@
 // Reads a file from standard input and prints its sheet, or the line of its refusal, to standard output.
 ghost use mathlib.Core.Bool.{true};
 ghost use mathlib.Core.Path.{_≡_};
+ghost use Prim.Native.Nat.{_<_};
 ghost use lib.ListN.{length};
+ghost use Rattle.io.specs.Counts.{Counts};
 ghost use Rattle.book_file.specs.Answers.{placeNumbers};
+ghost use Rattle.book_file.specs.File.{mostBytes};
 ghost use Rattle.book_file.specs.Loading.{loadBook};
 ghost use Rattle.book_words.specs.Soundness.{sound};
 ghost use Rattle.report.specs.Printing.{bufferWith};
@@ -73,15 +76,30 @@ fn length_of(printed: Printed) -> usize
     }
 }
 
-fn main() {
-    let mut input = [0u8; INPUT_ROOM];
-    let mut out = [0u8; report::SHEET_ROOM];
-    let got = io::read_full(STDIN_FILENO, &mut input);
-    let count = print_sheet(&input[..got], &mut out);
-    if !io::write_all(STDOUT_FILENO, &out[..count]) {
+// Reads the whole input, or its first bytes where it is longer than any file, into a buffer in which that shows.
+fn read_input(input: &mut [u8]) -> usize
+    requires { ⌜ mostBytes < length (now input) ⌝ }
+    ensures { λ r. ⌜ Counts r (now (input .exit)) ⌝ }
+{
+    io::read_full(STDIN_FILENO, input)
+}
+
+// Writes what is to be printed for a file. A write that fails is told on standard error.
+fn write_output(file: &[u8], text: &[u8])
+    requires { ⌜ now text ≡ printed (now file) ⌝ }
+{
+    if !io::write_all(STDOUT_FILENO, text) {
         io::write_all(
             STDERR_FILENO,
             b"quaymeter: the sheet could not be written\n",
         );
     }
+}
+
+fn main() {
+    let mut input = [0u8; INPUT_ROOM];
+    let mut out = [0u8; report::SHEET_ROOM];
+    let got = read_input(&mut input);
+    let count = print_sheet(&input[..got], &mut out);
+    write_output(&input[..got], &out[..count]);
 }

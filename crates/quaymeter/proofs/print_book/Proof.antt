@@ -8,10 +8,6 @@ use Rattle.report.specs.Sheet.{sheetText}
 use Rattle.quaymeter.proofs.Printing.{whole-length}
 use Rattle.quaymeter.proofs.print_book.Statement.{statement}
 use Rattle.quaymeter.proofs.print_book.Tie as tie
-use Rattle.quaymeter.proofs.print_book.Reads as reads
-use Rattle.quaymeter.proofs.print_book.Lts as lts
-use Rattle.quaymeter.proofs.length_of.Reads as length-of-reads
-use Rattle.report.proofs.sheet_sound.Reads as sheet-sound-reads
 
 sheet-sound-requires : tie.Need-sheet-sound-requires
 sheet-sound-requires c κs = search needs

@@ -10,11 +10,6 @@ use Rattle.report.specs.Printing.{bufferWith}
 use Rattle.quaymeter.proofs.Printing.{printed-book, printed-refusal}
 use Rattle.quaymeter.proofs.print_loaded.Statement.{statement}
 use Rattle.quaymeter.proofs.print_loaded.Tie as tie
-use Rattle.quaymeter.proofs.print_loaded.Reads as reads
-use Rattle.quaymeter.proofs.print_loaded.Lts as lts
-use Rattle.book_file.proofs.load.Reads as load-reads
-use Rattle.quaymeter.proofs.print_book.Reads as print-book-reads
-use Rattle.quaymeter.proofs.print_refusal.Reads as print-refusal-reads
 
 load-requires : tie.Need-load-requires
 load-requires c κs = search needs

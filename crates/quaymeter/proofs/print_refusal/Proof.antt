@@ -11,11 +11,6 @@ use Rattle.quaymeter.specs.Program.{refusedLine}
 use Rattle.quaymeter.proofs.Printing.{whole-length}
 use Rattle.quaymeter.proofs.print_refusal.Statement.{statement}
 use Rattle.quaymeter.proofs.print_refusal.Tie as tie
-use Rattle.quaymeter.proofs.print_refusal.Reads as reads
-use Rattle.quaymeter.proofs.print_refusal.Lts as lts
-use Rattle.book_file.proofs.numbers_of.Reads as numbers-of-reads
-use Rattle.quaymeter.proofs.length_of.Reads as length-of-reads
-use Rattle.report.proofs.refused.Reads as refused-reads
 
 numbers-of-requires : tie.Need-numbers-of-requires
 numbers-of-requires c κs = search needs

@@ -9,8 +9,6 @@ use Rattle.book_words.proofs.Facts.{sound-counted}
 use Rattle.report.proofs.Used.{Seen, seen-start, seen-nearer, seen-other, seen-all}
 use Rattle.report.proofs.chains.next_used.Statement.{statement}
 use Rattle.report.proofs.chains.next_used.Tie as tie
-use Rattle.report.proofs.chains.next_used.Reads as reads
-use Rattle.report.proofs.chains.next_used.Lts as lts
 
 abbrev Inv-loop : tie.InvT-loop
 Inv-loop book after count next₀ place₀ next place = (place ≤ count) × Seen book after place next

@@ -10,9 +10,6 @@ use lib.Seq.{take-length}
 use Rattle.report.specs.Printing.{answerFor, bufferWith}
 use Rattle.report.proofs.printing.hand_over.Statement.{statement}
 use Rattle.report.proofs.printing.hand_over.Tie as tie
-use Rattle.report.proofs.printing.hand_over.Reads as reads
-use Rattle.report.proofs.printing.hand_over.Lts as lts
-use Rattle.bytes.proofs.copy.Reads as copy-reads
 
 returns : tie.Need-returns
 unfolding answerFor bufferWith

@@ -10,10 +10,6 @@ use Rattle.report.proofs.Lines.{refused-most}
 use Rattle.report.proofs.Stores.{InRoom, in-room}
 use Rattle.report.proofs.refusals.refused.Statement.{statement}
 use Rattle.report.proofs.refusals.refused.Tie as tie
-use Rattle.report.proofs.refusals.refused.Reads as reads
-use Rattle.report.proofs.refusals.refused.Lts as lts
-use Rattle.report.proofs.printing.hand_over.Reads as hand-over-reads
-use Rattle.report.proofs.refusals.write_refused.Reads as write-refused-reads
 
 slice-aggregate-write-refused : tie.Need-slice-aggregate-write-refused
 slice-aggregate-write-refused c = search needs

@@ -12,10 +12,6 @@ use Rattle.report.proofs.Lines.{refused-most}
 use Rattle.report.proofs.Stores.{then-stored}
 use Rattle.report.proofs.refusals.write_refused.Statement.{statement}
 use Rattle.report.proofs.refusals.write_refused.Tie as tie
-use Rattle.report.proofs.refusals.write_refused.Reads as reads
-use Rattle.report.proofs.refusals.write_refused.Lts as lts
-use Rattle.report.proofs.text.put_bytes.Reads as put-bytes-reads
-use Rattle.report.proofs.text.put_line.Reads as put-line-reads
 
 slice-aggregate-put-bytes : tie.Need-slice-aggregate-put-bytes
 slice-aggregate-put-bytes c = search needs

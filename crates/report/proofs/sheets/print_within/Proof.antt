@@ -10,10 +10,6 @@ use Rattle.report.proofs.Lines.{sheet-most}
 use Rattle.report.proofs.Stores.{InRoom, in-room}
 use Rattle.report.proofs.sheets.print_within.Statement.{statement}
 use Rattle.report.proofs.sheets.print_within.Tie as tie
-use Rattle.report.proofs.sheets.print_within.Reads as reads
-use Rattle.report.proofs.sheets.print_within.Lts as lts
-use Rattle.report.proofs.printing.hand_over.Reads as hand-over-reads
-use Rattle.report.proofs.sheets.write_sheet.Reads as write-sheet-reads
 
 slice-aggregate-write-sheet : tie.Need-slice-aggregate-write-sheet
 slice-aggregate-write-sheet c = search needs

@@ -13,10 +13,6 @@ use Rattle.report.specs.Sheet.{statementNumbers, chainLine}
 use Rattle.report.specs.Text.{line}
 use Rattle.report.proofs.sheets.put_chain.Statement.{statement}
 use Rattle.report.proofs.sheets.put_chain.Tie as tie
-use Rattle.report.proofs.sheets.put_chain.Reads as reads
-use Rattle.report.proofs.sheets.put_chain.Lts as lts
-use Rattle.book.proofs.statement_sound.Reads as statement-sound-reads
-use Rattle.report.proofs.text.put_line.Reads as put-line-reads
 
 statement-sound-requires : tie.Need-statement-sound-requires
 statement-sound-requires c κs = search needs

@@ -13,10 +13,6 @@ use Rattle.book_words.specs.Measures.{mostChains}
 use Rattle.report.proofs.Lines.{Listed, listed-start, listed-next, listed-room, listed-all}
 use Rattle.report.proofs.sheets.put_lines.Statement.{statement}
 use Rattle.report.proofs.sheets.put_lines.Tie as tie
-use Rattle.report.proofs.sheets.put_lines.Reads as reads
-use Rattle.report.proofs.sheets.put_lines.Lts as lts
-use Rattle.report.proofs.chains.next_used.Reads as next-used-reads
-use Rattle.report.proofs.sheets.put_chain.Reads as put-chain-reads
 
 abbrev Inv-loop : tie.InvT-loop
 Inv-loop book out₀ start at₀ chain₀ out at chain = Listed book out₀ start chain at out

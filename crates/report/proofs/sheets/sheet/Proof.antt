@@ -6,10 +6,6 @@ use lib.ListN.{length}
 use Rattle.report.proofs.Laws.{sheet-refused, sheet-unprinted}
 use Rattle.report.proofs.sheets.sheet.Statement.{statement}
 use Rattle.report.proofs.sheets.sheet.Tie as tie
-use Rattle.report.proofs.sheets.sheet.Reads as reads
-use Rattle.report.proofs.sheets.sheet.Lts as lts
-use Rattle.book_words.proofs.is_sound.Reads as is-sound-reads
-use Rattle.report.proofs.sheets.sheet_sound.Reads as sheet-sound-reads
 
 is-sound-requires : tie.Need-is-sound-requires
 is-sound-requires c κs = search needs

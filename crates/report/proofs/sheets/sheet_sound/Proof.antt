@@ -7,10 +7,6 @@ use Rattle.report.specs.Sheet.{sheetText}
 use Rattle.report.proofs.Laws.{sheet-answered, sheet-printed, sheet-fits, stored-printed}
 use Rattle.report.proofs.sheets.sheet_sound.Statement.{statement}
 use Rattle.report.proofs.sheets.sheet_sound.Tie as tie
-use Rattle.report.proofs.sheets.sheet_sound.Reads as reads
-use Rattle.report.proofs.sheets.sheet_sound.Lts as lts
-use Rattle.report.proofs.sheets.print_within.Reads as print-within-reads
-use Rattle.report.proofs.sheets.write_sheet.Reads as write-sheet-reads
 
 write-sheet-requires : tie.Need-write-sheet-requires
 write-sheet-requires c κs = search needs

@@ -10,10 +10,6 @@ use Rattle.report.proofs.Lines.{sheet-most}
 use Rattle.report.proofs.Stores.{then-stored}
 use Rattle.report.proofs.sheets.write_sheet.Statement.{statement}
 use Rattle.report.proofs.sheets.write_sheet.Tie as tie
-use Rattle.report.proofs.sheets.write_sheet.Reads as reads
-use Rattle.report.proofs.sheets.write_sheet.Lts as lts
-use Rattle.report.proofs.sheets.put_lines.Reads as put-lines-reads
-use Rattle.report.proofs.text.put_bytes.Reads as put-bytes-reads
 
 slice-aggregate-put-bytes : tie.Need-slice-aggregate-put-bytes
 slice-aggregate-put-bytes c = search needs

@@ -12,9 +12,6 @@ use Rattle.report.proofs.Lines.{restOf, rest-stored, rest-length, rest-
 use Rattle.report.proofs.Stores.{sets-append}
 use Rattle.report.proofs.text.put_line.Statement.{statement}
 use Rattle.report.proofs.text.put_line.Tie as tie
-use Rattle.report.proofs.text.put_line.Reads as reads
-use Rattle.report.proofs.text.put_line.Lts as lts
-use Rattle.report.proofs.text.put_number.Reads as put-number-reads
 
 abbrev Inv-loop : tie.InvT-loop
 Inv-loop first rest out₀ at end₀ i₀ out end i =

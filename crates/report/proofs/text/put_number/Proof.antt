@@ -7,9 +7,6 @@ use lib.ListN.{length, length-set}
 use Rattle.report.proofs.Decimals.{Stored, stored-start, stored-next, stored-last, count-some}
 use Rattle.report.proofs.text.put_number.Statement.{statement}
 use Rattle.report.proofs.text.put_number.Tie as tie
-use Rattle.report.proofs.text.put_number.Reads as reads
-use Rattle.report.proofs.text.put_number.Lts as lts
-use Rattle.report.proofs.text.digit_count.Reads as digit-count-reads
 
 abbrev Inv-loop : tie.InvT-loop
 Inv-loop number out₀ at count left₀ rest₀ out left rest = (left < count) × (length out ≡ length out₀) × Stored number at out₀ left rest out
