@@ -197,9 +197,11 @@ fn enrol(book: &mut [u64], sums: Sums, number: u64, element: ElementRecord) -> R
 fn counted_at(counted: Counted, place: Place) -> Reached
     ensures { λ r. ⌜ r ≡ record { answer = answerAt (counted .reply .refusal) place; sums = counted .sums } ⌝ }
 {
+    let reply = counted.reply;
+    let sums = counted.sums;
     Reached {
-        answer: answers::answer_at(counted.reply.refusal, place),
-        sums: counted.sums,
+        answer: answers::answer_at(reply.refusal, place),
+        sums,
     }
 }
 
