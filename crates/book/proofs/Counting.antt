@@ -1,7 +1,7 @@
 -- The sums of ground 10 over a book with one record more, and over one with the same entries and measures. Assumes nothing.
 use mathlib.Core.List.{List}
 use mathlib.Core.Path.{_≡_, refl}
-use Prim.Native.Nat.{ℕ, _+_, _≤_}
+use Prim.Native.Nat.{ℕ, _≤_}
 use native.Mathlib.Omega.{arith}
 use Rattle.apportion.proofs.Sums.{sum-cong}
 use Rattle.book_words.specs.Book.{entries, mostEntries, elements, elementAt}

@@ -1,6 +1,7 @@
 -- The laws of the calls for the crates above; those of close are proved in `book_shares` and handed on. Of each call that writes:
 -- what an accepted one changes, and that it keeps all else (`Fresh`; `CategoryAdded`, `EntryAdded`, `EntryStruck`, `ElementAdded` of
--- `Views`; `CategoryClosed` of `Closed`); that a refused one leaves the list as it was; that either leaves a sound book sound.
+-- `Views`; `CategoryClosed` of `Closed`); that a refused one leaves the list as it was; that either leaves a sound book sound; of an
+-- opening and a closing, that they leave the sums of ground 10 as they are.
 -- Assumes nothing.
 use mathlib.Core.Bool.{true, false, cond, _&&_}
 use mathlib.Core.List.{List}

@@ -6,7 +6,6 @@ use Prim.Native.Nat.{ℕ, _≤_}
 use lib.Dec.{leb, eqb}
 use lib.ListN.{length}
 use borrow.Author.Tests.{leb-true, eqb-true}
-use Rattle.apportion.specs.Dividing.{largest}
 use Rattle.apportion.specs.Places.{at}
 use Rattle.book_words.specs.Book.{mark, bookLength, categories, mostCategories, entries, mostEntries, elements, mostElements}
 use Rattle.book_words.specs.Parts.{CountsWithin, Limited, countIn, recordFine}

@@ -15,7 +15,7 @@ use crate::records::Entry;
 pub const LARGEST: u64 = 1_000_000_000_000_000_000;
 
 // The largest sum of activities, 10^17.
-pub const MOST_ACTIVITY: u64 = 100_000_000_000_000_000;
+const MOST_ACTIVITY: u64 = 100_000_000_000_000_000;
 
 // An amount of operation and one of provision, kept apart.
 pub struct Amounts {
@@ -166,7 +166,7 @@ pub fn shares_of(book: &[u64], category: u64) -> Amounts
 }
 
 // Unstruck entries plus quoted shares.
-pub fn emitted(book: &[u64]) -> Amounts
+fn emitted(book: &[u64]) -> Amounts
     requires { ⌜ CountsWithin (now book) ⌝ }
     ensures { λ r. ⌜ r ≡ bySides (λ s. capped (emittedBy (now (book .entry)) s)) ⌝ }
 {
@@ -184,7 +184,7 @@ fn mass_activity(e: Element) -> u64
 }
 
 // The activity over all elements.
-pub fn activities(book: &[u64]) -> u64
+fn activities(book: &[u64]) -> u64
     requires { ⌜ CountsWithin (now book) ⌝ }
     ensures { λ r. ⌜ r ≡ capped (activitiesIn (now (book .entry))) ⌝ }
 {
