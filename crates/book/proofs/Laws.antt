@@ -1,6 +1,7 @@
 -- The laws of the calls for the crates above; those of close are proved in `book_shares` and handed on. Of each call that writes:
 -- what an accepted one changes, and that it keeps all else (`Fresh`; `CategoryAdded`, `EntryAdded`, `EntryStruck`, `ElementAdded` of
--- `Views`; `CategoryClosed` of `Closed`); that a refused one leaves the list as it was; that either leaves a sound book sound.
+-- `Views`; `CategoryClosed` of `Closed`); that a refused one leaves the list as it was; that either leaves a sound book sound; of an
+-- opening and a closing, that they leave the sums of ground 10 as they are.
 -- Assumes nothing.
 use mathlib.Core.Bool.{true, false, cond, _&&_}
 use mathlib.Core.List.{List}
@@ -17,9 +18,11 @@ use Rattle.apportion.specs.Places.{at, listBelow, oneIf}
 use Rattle.book_words.specs.Book.{mark, bookLength, categories, entries, elements, categoryOf, entryAt, elementAt}
 use Rattle.book_words.specs.Measures.{isKind, isChain}
 use Rattle.book_words.specs.Soundness.{sound, categoryFine, entryFine, elementFine}
-use Rattle.book_words.specs.Totals.{allUnstruck, sharesOf, activities, operation, provision, Side, emitted, unstruck, shareOf}
+use Rattle.book_words.specs.Totals.{allUnstruck, sharesOf, activities, operation, provision, Side, emitted, unstruck, shareOf, sumsOf}
 use Rattle.book_words.specs.declared.records.Element.{Element}
 use Rattle.book_words.specs.declared.records.Entry.{Entry}
+use Rattle.book_shares.specs.Closing.{closeRefusal, closeBook}
+use Rattle.book_shares.specs.Shares.{closingShare}
 use Rattle.book.specs.Calls.{cleared, freshRefusal, freshBook, openRefusal, openBook, postRefusal, postBook, postedEntry, strikeRefusal, strikeBook, enrolRefusal, enrolBook, enrolledElement, quoteRefusal, quoteBook, quotedElement}
 use Rattle.book.specs.Statements.{ofChain, waits, elementsOn, waitingOn, sharesOn, zerosBeside, statementOf, statementRefusal, statementReply}
 use Rattle.apportion.proofs.Grounds.{refused-old, either}
@@ -32,8 +35,10 @@ use Rattle.book_words.proofs.Rules.{entry-numbered, entry-suits, element-number
 use Rattle.book_words.proofs.Views.{CategoryAdded, category-added, EntryAdded, entry-added, EntryStruck, entry-struck, ElementAdded, element-added}
 use Rattle.book_words.proofs.Wholes.{whole-sound, sound-whole}
 use Rattle.book_words.proofs.Writes.{filled-past}
-use Rattle.book.proofs.Accepting.{struck, opened, posted, unclosed-zero, Posted, enrolled, Enrolled, quoted, Quoted}
+use Rattle.book.proofs.Accepting.{struck, opened, posted, posted-within, unclosed-zero, enrolled, enrolled-within, Enrolled, quoted, quoted-amounts, quoted-within}
+use Rattle.book.proofs.Counting.{category-sums, closing-sums}
 use Rattle.book.proofs.Keeping.{open-keeps, post-keeps, strike-keeps, element-keeps}
+use Rattle.book_shares.proofs.Closable.{closable}
 pub use Rattle.book_shares.proofs.Laws.{close-refused, close-closed, shares-handed, share-near-exact, close-sound}
 
 -- a sound book
@@ -118,6 +123,12 @@ module _ (ws : List ℕ) where
         (open-keeps ws (openBook ws kind) (record { kind = kind; closed = 0 }) (sound-whole ws fine) (open-added e) (ok .room) (and-both (isKind kind) true (ok .known) refl) refl))
         fine
 
+    -- an opening leaves the sums as they are
+    pub open-sums : sumsOf (openBook ws kind) ≡ sumsOf ws
+    open-sums =
+        either (λ b. sumsOf b ≡ sumsOf ws) (openRefusal ws kind) (openBook ws kind) ws open-refused
+        (λ e. category-sums ws (openBook ws kind) (record { kind = kind; closed = 0 }) (open-added e)) refl
+
   -- post
   module _ (category group quantity operationFactor provisionFactor : ℕ) where
     abbrev post-refusal : ℕ
@@ -145,15 +156,17 @@ module _ (ws : List ℕ) where
         (λ e.
         let ok = posted ws category group quantity operationFactor provisionFactor e in
         whole-sound post-book
-        (post-keeps ws post-book post-entry (sound-whole ws fine) (post-added e) (ok .room) (posted-fine ok) (unclosed-zero ws category (ok .unclosed)) (within ok)))
+        (post-keeps ws post-book post-entry (sound-whole ws fine) (post-added e) (ok .room) (posted-fine e) (unclosed-zero ws category (ok .unclosed)) (within e)))
         fine
       where
-        within : Posted ws category group quantity operationFactor provisionFactor → (s : Side) → emitted ws s + unstruck s post-entry ≤ largest
-        within ok operation = ok .operation-within
-        within ok provision = ok .provision-within
+        within : post-refusal ≡ 0 → (s : Side) → emitted ws s + unstruck s post-entry ≤ largest
+        within e operation = posted-within ws category group quantity operationFactor provisionFactor e .0
+        within e provision = posted-within ws category group quantity operationFactor provisionFactor e .1
 
-        posted-fine : Posted ws category group quantity operationFactor provisionFactor → entryFine ws post-entry ≡ true
-        posted-fine ok = sym (entry-numbered ws post-entry (ok .numbered)) ∙ entry-suits (categoryOf ws category) post-entry (ok .known) (ok .suited) (omega (arith, ok .operation-within)) (omega (arith, ok .provision-within)) (omega arith)
+        posted-fine : post-refusal ≡ 0 → entryFine ws post-entry ≡ true
+        posted-fine e =
+            let ok = posted ws category group quantity operationFactor provisionFactor e in
+            sym (entry-numbered ws post-entry (ok .numbered)) ∙ entry-suits (categoryOf ws category) post-entry (ok .known) (ok .suited) (omega (arith, within e operation)) (omega (arith, within e provision)) (omega arith)
 
   -- strike
   module _ (entry : ℕ) where
@@ -210,7 +223,7 @@ module _ (ws : List ℕ) where
         let whole = sound-whole ws fine in
         whole-sound enrol-book
         (element-keeps ws enrol-book enrol-element whole (enrol-added e) (ok .room) (enrolled-fine ok)
-        (λ s. rw (nothing 0 s, add-zero) (whole .limited s)) (ok .within) (λ p s. nothing (p + 1) s)))
+        (λ s. rw (nothing 0 s, add-zero) (whole .limited s)) (enrolled-within ws category chain code amount distance e) (λ p s. nothing (p + 1) s)))
         fine
       where
         share : (s : Side) → shareOf s enrol-element ≡ 0
@@ -254,12 +267,22 @@ module _ (ws : List ℕ) where
         whole-sound quote-book
         (element-keeps ws quote-book quote-element (sound-whole ws fine) (quote-added e) (ok .room)
         (sym (element-quoted ws quote-element refl) ∙ quoted-suits quote-element (ok .known-chain) (ok .amount-fine) (ok .distance-fine) refl refl)
-        (within ok) (ok .within) (λ p s. rw (ne-eqb 0 (p + 1) (λ z. omega arith)))))
+        (within e) (quoted-within ws chain adjust mass distance operationIntensity provisionIntensity e) (λ p s. rw (ne-eqb 0 (p + 1) (λ z. omega arith)))))
         fine
       where
-        within : Quoted ws chain adjust mass distance operationIntensity provisionIntensity → (s : Side) → emitted ws s + shareOf s quote-element ≤ largest
-        within ok operation = ok .operation-within
-        within ok provision = ok .provision-within
+        within : quote-refusal ≡ 0 → (s : Side) → emitted ws s + shareOf s quote-element ≤ largest
+        within e operation = quoted-amounts ws chain adjust mass distance operationIntensity provisionIntensity e .0
+        within e provision = quoted-amounts ws chain adjust mass distance operationIntensity provisionIntensity e .1
+
+  -- a closing leaves the sums as they are
+  pub close-sums : (category : ℕ) → sumsOf (closeBook ws category) ≡ sumsOf ws
+  close-sums category =
+      either (λ b. sumsOf b ≡ sumsOf ws) (closeRefusal ws category) (closeBook ws category) ws (close-refused ws category)
+      (λ e.
+      let ok = closable ws category e in
+      closing-sums ws (closeBook ws category) category (closingShare ws category) (close-closed ws category e) (sound-counted ws (ok .fine))
+      (between-low 1 (categories ws) category (ok .numbered)))
+      refl
 
   -- statement: what an accepted one answers, and where it is zeros
   module _ (chain : ℕ) where

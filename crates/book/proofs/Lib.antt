@@ -2,6 +2,8 @@
 pub mod Quotes
 pub mod Refusing
 pub mod Accepting
+pub mod Admitting
 pub mod Keeping
+pub mod Counting
 pub mod Laws
 pub mod Walking

@@ -1,3 +1,4 @@
 pub mod Calls
 pub mod Quotes
+pub mod Appending
 pub mod Statements

@@ -1,14 +1,19 @@
 // Enrol: appends an element of a category.
 ghost use mathlib.Core.Bool.{true};
 ghost use mathlib.Core.Path.{_≡_};
+ghost use lib.ListN.{take};
+ghost use Rattle.apportion.specs.Grounds.{firstOf};
 ghost use Rattle.book_words.specs.Book.{categories, categoryOf};
 ghost use Rattle.book_words.specs.Measures.{between, isCode, isAmount, isDistance};
 ghost use Rattle.book_words.specs.Soundness.{sound};
-ghost use Rattle.book.specs.Calls.{enrolReply, enrolBook, enrolRefusal, enrolledElement};
+ghost use Rattle.book_words.specs.Totals.{sumsOf};
+ghost use Rattle.book.specs.Calls.{enrolReply, enrolBook, enrolGrounds, enrolledElement};
 use crate::appending;
 use crate::replies;
+use crate::replies::Counted;
 use crate::replies::Reply;
 use book_words::Element;
+use book_words::Sums;
 
 // Enrols an element in a category, and answers its number.
 pub fn enrol(
@@ -25,31 +30,36 @@ pub fn enrol(
     if !book_words::is_sound(book) {
         return replies::refused(1);
     }
-    enrol_sound(book, category, chain, code, amount, distance)
+    let sums = book_words::sums_of(book);
+    let counted = enrol_sound(book, sums, category, chain, code, amount, distance);
+    counted.reply
 }
 
-// The same on a book that is known to be sound.
+// The same on a book that is known to be sound and whose sums are known.
 pub fn enrol_sound(
     book: &mut [u64],
+    sums: Sums,
     category: u64,
     chain: u64,
     code: u64,
     amount: u64,
     distance: u64,
-) -> Reply
+) -> Counted
     requires { ⌜ sound (now book) ≡ true ⌝ }
-    ensures { λ r. ⌜ r ≡ enrolReply (now (book .entry)) category chain code amount distance ⌝ }
+    requires { ⌜ sums ≡ sumsOf (now book) ⌝ }
+    ensures { λ r. ⌜ r .reply ≡ enrolReply (now (book .entry)) category chain code amount distance ⌝ }
     ensures { λ _. ⌜ now (book .exit) ≡ enrolBook (now (book .entry)) category chain code amount distance ⌝ }
+    ensures { λ r. ⌜ r .sums ≡ sumsOf (now (book .exit)) ⌝ }
 {
     let refusal = refusal_number(book, category, chain, code, amount, distance);
     if refusal != 0 {
-        return replies::refused(refusal);
+        return replies::turned_away(refusal, sums);
     }
     let e = enrolled(book, category, chain, code, amount, distance);
-    appending::add_element(book, e)
+    appending::admit_element(book, sums, e)
 }
 
-// The number of the first ground that holds, or 0.
+// The number of the first ground before 10 that holds, or 0.
 fn refusal_number(
     book: &[u64],
     category: u64,
@@ -59,7 +69,7 @@ fn refusal_number(
     distance: u64,
 ) -> u64
     requires { ⌜ sound (now book) ≡ true ⌝ }
-    ensures { λ r. ⌜ r ≡ enrolRefusal (now (book .entry)) category chain code amount distance ⌝ }
+    ensures { λ r. ⌜ r ≡ firstOf (take 7 (enrolGrounds (now (book .entry)) category chain code amount distance)) ⌝ }
 {
     if !((1 <= category) & (category <= book[book_words::CATEGORIES])) {
         return 2;
@@ -79,10 +89,6 @@ fn refusal_number(
     }
     if book_words::MOST_ELEMENTS <= book[book_words::ELEMENTS] {
         return 8;
-    }
-    let e = enrolled(book, category, chain, code, amount, distance);
-    if book_words::passes_activity(book, e) {
-        return 10;
     }
     0
 }

@@ -25,6 +25,7 @@ pub use posting::post;
 pub use posting::post_sound;
 pub use quoting::quote;
 pub use quoting::quote_sound;
+pub use replies::Counted;
 pub use replies::Reply;
 pub use replies::Statement;
 pub use statements::statement;

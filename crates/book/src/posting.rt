@@ -1,12 +1,17 @@
 // Post: appends an entry.
 ghost use mathlib.Core.Bool.{true};
 ghost use mathlib.Core.Path.{_≡_};
+ghost use lib.ListN.{take};
+ghost use Rattle.apportion.specs.Grounds.{firstOf};
 ghost use Rattle.book_words.specs.Soundness.{sound};
-ghost use Rattle.book.specs.Calls.{postReply, postBook, postRefusal};
+ghost use Rattle.book_words.specs.Totals.{sumsOf};
+ghost use Rattle.book.specs.Calls.{postReply, postBook, postGrounds};
 use crate::appending;
 use crate::replies;
+use crate::replies::Counted;
 use crate::replies::Reply;
 use book_words::Entry;
+use book_words::Sums;
 
 // The largest quantity, 10^12 thousandths of a unit.
 const MOST_QUANTITY: u64 = 1_000_000_000_000;
@@ -29,28 +34,34 @@ pub fn post(
     if !book_words::is_sound(book) {
         return replies::refused(1);
     }
-    post_sound(
+    let sums = book_words::sums_of(book);
+    let counted = post_sound(
         book,
+        sums,
         category,
         group,
         quantity,
         operation_factor,
         provision_factor,
-    )
+    );
+    counted.reply
 }
 
-// The same on a book that is known to be sound.
+// The same on a book that is known to be sound and whose sums are known.
 pub fn post_sound(
     book: &mut [u64],
+    sums: Sums,
     category: u64,
     group: u64,
     quantity: u64,
     operation_factor: u64,
     provision_factor: u64,
-) -> Reply
+) -> Counted
     requires { ⌜ sound (now book) ≡ true ⌝ }
-    ensures { λ r. ⌜ r ≡ postReply (now (book .entry)) category group quantity «operation_factor» «provision_factor» ⌝ }
+    requires { ⌜ sums ≡ sumsOf (now book) ⌝ }
+    ensures { λ r. ⌜ r .reply ≡ postReply (now (book .entry)) category group quantity «operation_factor» «provision_factor» ⌝ }
     ensures { λ _. ⌜ now (book .exit) ≡ postBook (now (book .entry)) category group quantity «operation_factor» «provision_factor» ⌝ }
+    ensures { λ r. ⌜ r .sums ≡ sumsOf (now (book .exit)) ⌝ }
 {
     let refusal = refusal_number(
         book,
@@ -61,21 +72,22 @@ pub fn post_sound(
         provision_factor,
     );
     if refusal != 0 {
-        return replies::refused(refusal);
+        return replies::turned_away(refusal, sums);
     }
-    appending::add_entry(
+    appending::admit_entry(
         book,
+        sums,
         Entry {
             category,
             group,
-            operation: quantity * operation_factor,
-            provision: quantity * provision_factor,
+            operation: book_words::multiply(quantity, operation_factor),
+            provision: book_words::multiply(quantity, provision_factor),
             struck: 0,
         },
     )
 }
 
-// The number of the first ground that holds, or 0.
+// The number of the first ground before 10 that holds, or 0.
 fn refusal_number(
     book: &[u64],
     category: u64,
@@ -85,7 +97,7 @@ fn refusal_number(
     provision_factor: u64,
 ) -> u64
     requires { ⌜ sound (now book) ≡ true ⌝ }
-    ensures { λ r. ⌜ r ≡ postRefusal (now (book .entry)) category group quantity «operation_factor» «provision_factor» ⌝ }
+    ensures { λ r. ⌜ r ≡ firstOf (take 7 (postGrounds (now (book .entry)) category group quantity «operation_factor» «provision_factor»)) ⌝ }
 {
     if !((1 <= category) & (category <= book[book_words::CATEGORIES])) {
         return 2;
@@ -107,11 +119,6 @@ fn refusal_number(
     }
     if book_words::MOST_ENTRIES <= book[book_words::ENTRIES] {
         return 8;
-    }
-    let operation = book_words::multiply(quantity, operation_factor);
-    let provision = book_words::multiply(quantity, provision_factor);
-    if book_words::passes_amounts(book, operation, provision) {
-        return 10;
     }
     0
 }

@@ -2,14 +2,18 @@
 ghost use mathlib.Core.Bool.{true};
 ghost use mathlib.Core.Path.{_≡_};
 ghost use Prim.Native.Nat.{_≤_};
+ghost use lib.ListN.{take};
+ghost use Rattle.apportion.specs.Grounds.{firstOf};
 ghost use Rattle.book_words.specs.Soundness.{sound};
-ghost use Rattle.book_words.specs.Totals.{capped};
-ghost use Rattle.book.specs.Calls.{quoteReply, quoteBook, quoteRefusal, quotedElement, quotedAmount, adjusted as adjustedBy};
+ghost use Rattle.book_words.specs.Totals.{capped, sumsOf};
+ghost use Rattle.book.specs.Calls.{quoteReply, quoteBook, quoteGrounds, quotedElement, quotedAmount, adjusted as adjustedBy};
 ghost use Rattle.book.specs.Quotes.{Quotable, capShares};
 use crate::appending;
 use crate::replies;
+use crate::replies::Counted;
 use crate::replies::Reply;
 use book_words::Element;
+use book_words::Sums;
 
 // The largest intensity, 10^9 mg per tonne-km.
 const MOST_INTENSITY: u64 = 1_000_000_000;
@@ -33,30 +37,36 @@ pub fn quote(
     if !book_words::is_sound(book) {
         return replies::refused(1);
     }
-    quote_sound(
+    let sums = book_words::sums_of(book);
+    let counted = quote_sound(
         book,
+        sums,
         chain,
         adjust,
         mass,
         distance,
         operation_intensity,
         provision_intensity,
-    )
+    );
+    counted.reply
 }
 
-// The same on a book that is known to be sound.
+// The same on a book that is known to be sound and whose sums are known.
 pub fn quote_sound(
     book: &mut [u64],
+    sums: Sums,
     chain: u64,
     adjust: u64,
     mass: u64,
     distance: u64,
     operation_intensity: u64,
     provision_intensity: u64,
-) -> Reply
+) -> Counted
     requires { ⌜ sound (now book) ≡ true ⌝ }
-    ensures { λ r. ⌜ r ≡ quoteReply (now (book .entry)) chain adjust mass distance «operation_intensity» «provision_intensity» ⌝ }
+    requires { ⌜ sums ≡ sumsOf (now book) ⌝ }
+    ensures { λ r. ⌜ r .reply ≡ quoteReply (now (book .entry)) chain adjust mass distance «operation_intensity» «provision_intensity» ⌝ }
     ensures { λ _. ⌜ now (book .exit) ≡ quoteBook (now (book .entry)) chain adjust mass distance «operation_intensity» «provision_intensity» ⌝ }
+    ensures { λ r. ⌜ r .sums ≡ sumsOf (now (book .exit)) ⌝ }
 {
     let refusal = refusal_number(
         book,
@@ -68,7 +78,7 @@ pub fn quote_sound(
         provision_intensity,
     );
     if refusal != 0 {
-        return replies::refused(refusal);
+        return replies::turned_away(refusal, sums);
     }
     let e = quoted(
         chain,
@@ -78,10 +88,10 @@ pub fn quote_sound(
         operation_intensity,
         provision_intensity,
     );
-    appending::add_element(book, e)
+    appending::admit_element(book, sums, e)
 }
 
-// The number of the first ground that holds, or 0.
+// The number of the first ground before 10 that holds, or 0.
 fn refusal_number(
     book: &[u64],
     chain: u64,
@@ -92,7 +102,7 @@ fn refusal_number(
     provision_intensity: u64,
 ) -> u64
     requires { ⌜ sound (now book) ≡ true ⌝ }
-    ensures { λ r. ⌜ r ≡ quoteRefusal (now (book .entry)) chain adjust mass distance «operation_intensity» «provision_intensity» ⌝ }
+    ensures { λ r. ⌜ r ≡ firstOf (take 4 (quoteGrounds (now (book .entry)) chain adjust mass distance «operation_intensity» «provision_intensity»)) ⌝ }
 {
     if !(book_words::is_chain(chain) & (adjust <= 1)) {
         return 3;
@@ -105,19 +115,6 @@ fn refusal_number(
     }
     if book_words::MOST_ELEMENTS <= book[book_words::ELEMENTS] {
         return 8;
-    }
-    let e = quoted(
-        chain,
-        adjust,
-        mass,
-        distance,
-        operation_intensity,
-        provision_intensity,
-    );
-    if book_words::passes_amounts(book, e.operation, e.provision)
-        | book_words::passes_activity(book, e)
-    {
-        return 10;
     }
     0
 }

@@ -1,6 +1,7 @@
 // What calls answer.
 ghost use mathlib.Core.Path.{_≡_};
 ghost use Rattle.book.specs.Statements.{zerosBeside};
+use book_words::Sums;
 
 // What a call that returns a record's number answers.
 pub struct Reply {
@@ -15,6 +16,22 @@ pub fn refused(refusal: u64) -> Reply
     ensures { λ r. ⌜ r ≡ record { refusal = refusal; number = 0 } ⌝ }
 {
     Reply { refusal, number: 0 }
+}
+
+// What a call that is handed the sums of its book answers: its reply, and the sums of the book that it leaves.
+pub struct Counted {
+    pub reply: Reply,
+    pub sums: Sums,
+}
+
+// A refused call leaves the sums as they are.
+pub fn turned_away(refusal: u64, sums: Sums) -> Counted
+    ensures { λ r. ⌜ r ≡ record { reply = record { refusal = refusal; number = 0 }; sums = sums } ⌝ }
+{
+    Counted {
+        reply: refused(refusal),
+        sums,
+    }
 }
 
 // What a statement answers.

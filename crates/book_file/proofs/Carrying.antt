@@ -11,14 +11,18 @@ use Rattle.apportion.specs.Grounds.{accepted}
 use Rattle.apportion.specs.Places.{keptBelow}
 use Rattle.apportion.proofs.Grounds.{accepted-new, refused-old, either}
 use Rattle.book_words.specs.Soundness.{sound}
+use Rattle.book_words.specs.Totals.{sumsOf}
+use Rattle.book_words.specs.declared.totals.Sums.{Sums}
+use Rattle.book.proofs.Laws.{open-sums, close-sums}
 use Rattle.conservation.specs.Runs.{step}
 use Rattle.conservation.proofs.Laws.{step-refused, sound-step}
 use Rattle.book_file.specs.declared.answers.Load.{Load}
 use Rattle.book_file.specs.declared.answers.Load.the-variants.{Loaded, Stopped}
 use Rattle.book_file.specs.declared.answers.Place.{Place}
 use Rattle.book_file.specs.declared.answers.Place.the-variants.{Header, Category, Entry, Element, Closing}
+use Rattle.book_file.specs.declared.records.CategoryRecord.{CategoryRecord}
 use Rattle.book_file.specs.Answers.{numbersOf, answerAt}
-use Rattle.book_file.specs.Loading.{Task, Loading, loadingOf, taskRefusal, made, unlessStopped, nextTask, carriedOn}
+use Rattle.book_file.specs.Loading.{Task, opening, closing, isFlagged, Loading, loadingOf, taskRefusal, made, madeClosing, unlessStopped, nextTask, carriedOn}
 
 -- the refusal number of a stop
 pub stop-refusal : (n : ℕ) (place : Place) → numbersOf (Stopped n place) .refusal ≡ n
@@ -57,6 +61,29 @@ pub call-made : {answer : Load} {ws′ : List ℕ} {n : ℕ} (ws : List ℕ) (ta
     → answer ≡ answerAt n (task .place)
     → loadingOf answer ws′ ≡ made ws task
 call-made ws task whole gave is = rw (is, gave .0, gave .1) (sym (made-call ws task whole))
+
+-- an opening and a closing leave the sums of the book as they are
+made-sums : (ws : List ℕ) (task : Task) → sumsOf (step ws (task .call) .book) ≡ sumsOf ws → sumsOf (made ws task .book) ≡ sumsOf ws
+unfolding made
+made-sums ws task kept =
+    either (λ b. sumsOf b ≡ sumsOf ws) (taskRefusal ws task) (made ws task .book) ws
+    (refused-old (taskRefusal ws task) (step ws (task .call) .book) ws)
+    (λ e. rw (accepted-new (taskRefusal ws task) (step ws (task .call) .book) ws e) kept)
+    refl
+
+pub opening-sums : (ws : List ℕ) (number : ℕ) (r : CategoryRecord) → sumsOf (made ws (opening number r) .book) ≡ sumsOf ws
+opening-sums ws number r = made-sums ws (opening number r) (open-sums ws (r .kind))
+
+pub closing-sums : (ws : List ℕ) (number : ℕ) (r : CategoryRecord) → sumsOf (madeClosing ws number r .book) ≡ sumsOf ws
+closing-sums ws number r = go (isFlagged r)
+  where
+    go : (t : Bool) → sumsOf (cond t (made ws (closing number)) (loadingOf Loaded ws) .book) ≡ sumsOf ws
+    go true = made-sums ws (closing number) (close-sums ws number)
+    go false = refl
+
+-- sums that were known are those of the book that a load has come to
+pub known-still : {sums : Sums} {answer : Load} (ws ws′ : List ℕ) (loading : Loading) → sums ≡ sumsOf ws → loadingOf answer ws′ ≡ loading → sumsOf (loading .book) ≡ sumsOf ws → sums ≡ sumsOf ws′
+known-still ws ws′ loading known is kept = known ∙ sym (ap (λ (l : Loading). sumsOf (l .book)) is ∙ kept)
 
 -- a list of tasks that are carried out one after the other
 pub carried-append : (loading : Loading) (first rest : List Task)

@@ -8,6 +8,7 @@ use crate::answers::Load;
 use crate::answers::Place;
 use crate::header;
 use crate::tables;
+use crate::tables::Reached;
 use crate::tables::Table;
 
 // Loads a file into a book of any words. A load that stops on a record leaves what the calls before it made; one that the
@@ -31,8 +32,13 @@ fn load_records(book: &mut [u64], file: &[u8]) -> Load
     ensures { λ r. ⌜ loadingOf r (now (book .exit))
         ≡ carriedOn (loadingOf Load.Loaded (now (book .entry))) (tasksOf (now (file .entry))) ⌝ }
 {
-    let opened = tables::load_table(book, file, Table::Categories, Load::Loaded);
+    let start = Reached {
+        answer: Load::Loaded,
+        sums: book_words::sums_of(book),
+    };
+    let opened = tables::load_table(book, file, Table::Categories, start);
     let posted = tables::load_table(book, file, Table::Entries, opened);
     let enrolled = tables::load_table(book, file, Table::Elements, posted);
-    tables::load_table(book, file, Table::Closings, enrolled)
+    let closed = tables::load_table(book, file, Table::Closings, enrolled);
+    closed.answer
 }

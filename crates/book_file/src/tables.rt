@@ -3,6 +3,8 @@ ghost use mathlib.Core.Bool.{true};
 ghost use mathlib.Core.Path.{_≡_};
 ghost use Prim.Native.Nat.{_+_, _<_};
 ghost use Rattle.book_words.specs.Soundness.{sound};
+ghost use Rattle.book_words.specs.Totals.{sumsOf};
+ghost use Rattle.book_file.specs.Answers.{answerAt};
 ghost use Rattle.book_file.specs.File.{Within32};
 ghost use Rattle.book_file.specs.Loading.{sectionOf, loadingOf, opening, posting, quoting, enrolling, enrollingOrQuoting, made, madeClosing, madeAt, tasksIn, carriedOn};
 use crate::answers;
@@ -14,6 +16,8 @@ use crate::records;
 use crate::records::CategoryRecord;
 use crate::records::ElementRecord;
 use crate::records::EntryRecord;
+use book::Counted;
+use book_words::Sums;
 
 // The records that ask for calls. The categories do so twice: to be opened, and those flagged to be closed.
 pub enum Table {
@@ -23,43 +27,73 @@ pub enum Table {
     Closings,
 }
 
+// What a load has come to: its answer so far, and the sums of the book that it has made.
+pub struct Reached {
+    pub answer: Load,
+    pub sums: Sums,
+}
+
 // Goes on with a load: makes the calls of the records of a table, up to one that stops it.
-pub fn load_table(book: &mut [u64], file: &[u8], table: Table, before: Load) -> Load
+pub fn load_table(book: &mut [u64], file: &[u8], table: Table, before: Reached) -> Reached
     requires { ⌜ sound (now book) ≡ true ⌝ }
-    ensures { λ r. ⌜ loadingOf r (now (book .exit))
-        ≡ carriedOn (loadingOf before (now (book .entry))) (tasksIn (now (file .entry)) table) ⌝ }
+    requires { ⌜ before .sums ≡ sumsOf (now book) ⌝ }
+    ensures { λ r. ⌜ loadingOf (r .answer) (now (book .exit))
+        ≡ carriedOn (loadingOf (before .answer) (now (book .entry))) (tasksIn (now (file .entry)) table) ⌝ }
+    ensures { λ r. ⌜ r .sums ≡ sumsOf (now (book .exit)) ⌝ }
 {
-    let Load::Loaded = before else {
+    let answer = before.answer;
+    let Load::Loaded = answer else {
         return before;
     };
     let section = section_of(file, table);
+    let mut sums = before.sums;
     let mut place = 0;
     while place < section.count {
-        let answer = load_record(book, file, table, section, place);
+        let reached = load_record(book, sums, file, table, section, place);
+        let answer = reached.answer;
         let Load::Loaded = answer else {
-            return answer;
+            return reached;
         };
+        sums = reached.sums;
         place += 1;
     }
-    Load::Loaded
+    Reached {
+        answer: Load::Loaded,
+        sums,
+    }
 }
 
-// Makes the call that the record at a place asks for.
-fn load_record(book: &mut [u64], file: &[u8], table: Table, section: Section, place: usize) -> Load
+// Makes the call that the record at a place asks for. Opening and closing leave the sums as they are.
+fn load_record(
+    book: &mut [u64],
+    sums: Sums,
+    file: &[u8],
+    table: Table,
+    section: Section,
+    place: usize,
+) -> Reached
     requires { ⌜ sound (now book) ≡ true ⌝ }
+    requires { ⌜ sums ≡ sumsOf (now book) ⌝ }
     requires { ⌜ section ≡ sectionOf (now file) table ⌝ }
     requires { ⌜ Within32 section ⌝ }
     requires { ⌜ place < section .count ⌝ }
-    ensures { λ r. ⌜ loadingOf r (now (book .exit))
+    ensures { λ r. ⌜ loadingOf (r .answer) (now (book .exit))
         ≡ madeAt (now (book .entry)) (now (file .entry)) table place ⌝ }
+    ensures { λ r. ⌜ r .sums ≡ sumsOf (now (book .exit)) ⌝ }
 {
     let at = header::record_at(section, place);
     let number = place as u64 + 1;
     match table {
-        Table::Categories => open(book, number, records::category(file, at)),
-        Table::Entries => post(book, number, records::entry(file, at)),
-        Table::Elements => enrol_or_quote(book, number, records::element(file, at)),
-        Table::Closings => close(book, number, records::category(file, at)),
+        Table::Categories => Reached {
+            answer: open(book, number, records::category(file, at)),
+            sums,
+        },
+        Table::Entries => post(book, sums, number, records::entry(file, at)),
+        Table::Elements => enrol_or_quote(book, sums, number, records::element(file, at)),
+        Table::Closings => Reached {
+            answer: close(book, number, records::category(file, at)),
+            sums,
+        },
     }
 }
 
@@ -77,42 +111,53 @@ fn open(book: &mut [u64], number: u64, category: CategoryRecord) -> Load
 }
 
 // Posts an entry.
-fn post(book: &mut [u64], number: u64, entry: EntryRecord) -> Load
+fn post(book: &mut [u64], sums: Sums, number: u64, entry: EntryRecord) -> Reached
     requires { ⌜ sound (now book) ≡ true ⌝ }
-    ensures { λ r. ⌜ loadingOf r (now (book .exit)) ≡ made (now (book .entry)) (posting number entry) ⌝ }
+    requires { ⌜ sums ≡ sumsOf (now book) ⌝ }
+    ensures { λ r. ⌜ loadingOf (r .answer) (now (book .exit)) ≡ made (now (book .entry)) (posting number entry) ⌝ }
+    ensures { λ r. ⌜ r .sums ≡ sumsOf (now (book .exit)) ⌝ }
 {
-    let reply = book::post_sound(
+    let counted = book::post_sound(
         book,
+        sums,
         entry.category,
         entry.group,
         entry.quantity,
         entry.operation,
         entry.provision,
     );
-    answers::answer_at(reply.refusal, Place::Entry(number))
+    counted_at(counted, Place::Entry(number))
 }
 
 // Enrols an element or, with category 0, quotes one.
-fn enrol_or_quote(book: &mut [u64], number: u64, element: ElementRecord) -> Load
+fn enrol_or_quote(book: &mut [u64], sums: Sums, number: u64, element: ElementRecord) -> Reached
     requires { ⌜ sound (now book) ≡ true ⌝ }
-    ensures { λ r. ⌜ loadingOf r (now (book .exit)) ≡ made (now (book .entry)) (enrollingOrQuoting number element) ⌝ }
+    requires { ⌜ sums ≡ sumsOf (now book) ⌝ }
+    ensures { λ r. ⌜ loadingOf (r .answer) (now (book .exit)) ≡ made (now (book .entry)) (enrollingOrQuoting number element) ⌝ }
+    ensures { λ r. ⌜ r .sums ≡ sumsOf (now (book .exit)) ⌝ }
 {
     if element.category == 0 {
-        return quote(book, number, element);
+        return quote(book, sums, number, element);
     }
-    enrol(book, number, element)
+    enrol(book, sums, number, element)
 }
 
-fn quote(book: &mut [u64], number: u64, element: ElementRecord) -> Load
+fn quote(book: &mut [u64], sums: Sums, number: u64, element: ElementRecord) -> Reached
     requires { ⌜ sound (now book) ≡ true ⌝ }
-    ensures { λ r. ⌜ loadingOf r (now (book .exit)) ≡ made (now (book .entry)) (quoting number element) ⌝ }
+    requires { ⌜ sums ≡ sumsOf (now book) ⌝ }
+    ensures { λ r. ⌜ loadingOf (r .answer) (now (book .exit)) ≡ made (now (book .entry)) (quoting number element) ⌝ }
+    ensures { λ r. ⌜ r .sums ≡ sumsOf (now (book .exit)) ⌝ }
 {
     let place = Place::Element(number);
     if element.code != 0 {
-        return Load::Stopped(13, place);
+        return Reached {
+            answer: Load::Stopped(13, place),
+            sums,
+        };
     }
-    let reply = book::quote_sound(
+    let counted = book::quote_sound(
         book,
+        sums,
         element.chain,
         element.adjust,
         element.amount,
@@ -120,26 +165,44 @@ fn quote(book: &mut [u64], number: u64, element: ElementRecord) -> Load
         element.operation,
         element.provision,
     );
-    answers::answer_at(reply.refusal, place)
+    counted_at(counted, place)
 }
 
-fn enrol(book: &mut [u64], number: u64, element: ElementRecord) -> Load
+fn enrol(book: &mut [u64], sums: Sums, number: u64, element: ElementRecord) -> Reached
     requires { ⌜ sound (now book) ≡ true ⌝ }
-    ensures { λ r. ⌜ loadingOf r (now (book .exit)) ≡ made (now (book .entry)) (enrolling number element) ⌝ }
+    requires { ⌜ sums ≡ sumsOf (now book) ⌝ }
+    ensures { λ r. ⌜ loadingOf (r .answer) (now (book .exit)) ≡ made (now (book .entry)) (enrolling number element) ⌝ }
+    ensures { λ r. ⌜ r .sums ≡ sumsOf (now (book .exit)) ⌝ }
 {
     let place = Place::Element(number);
     if (element.adjust != 0) | (element.operation != 0) | (element.provision != 0) {
-        return Load::Stopped(13, place);
+        return Reached {
+            answer: Load::Stopped(13, place),
+            sums,
+        };
     }
-    let reply = book::enrol_sound(
+    let counted = book::enrol_sound(
         book,
+        sums,
         element.category,
         element.chain,
         element.code,
         element.amount,
         element.distance,
     );
-    answers::answer_at(reply.refusal, place)
+    counted_at(counted, place)
+}
+
+// What a load has come to after a call at this place.
+fn counted_at(counted: Counted, place: Place) -> Reached
+    ensures { λ r. ⌜ r ≡ record { answer = answerAt (counted .reply .refusal) place; sums = counted .sums } ⌝ }
+{
+    let reply = counted.reply;
+    let sums = counted.sums;
+    Reached {
+        answer: answers::answer_at(reply.refusal, place),
+        sums,
+    }
 }
 
 // Closes a category that is flagged.

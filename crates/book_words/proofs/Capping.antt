@@ -1,14 +1,17 @@
 -- Capped sums and products: they decide every ground as the sums and products do. Assumes nothing.
+use mathlib.Core.Bool.{true, _&&_}
 use mathlib.Core.Logic.{⊎-elim}
 use mathlib.Core.Path.{ap, _≡_, _∙_, sym}
 use Prim.Native.Nat.{ℕ, _≤_, _+_, _*_, zero, suc, _<_, _/_}
 use native.Mathlib.Nat.{mul-zero, mul-le-mul-left, div-lt-iff-lt-mul, le-div-iff-mul-le}
 use native.Mathlib.Omega.{arith}
 use lib.Dec.{ltb, leb, eqb}
-use borrow.Author.Tests.{lt-ltb, lt-leb, ne-eqb}
+use borrow.Author.Tests.{lt-ltb, leb-true, lt-leb, ne-eqb}
 use Rattle.apportion.specs.Dividing.{largest}
-use Rattle.book_words.specs.Totals.{capped, mostActivity}
+use Rattle.book_words.specs.declared.totals.Sums.{Sums}
+use Rattle.book_words.specs.Totals.{capped, mostActivity, capSums, withinLimits}
 use Rattle.apportion.proofs.Sums.{below-or-not}
+use Rattle.book_words.proofs.Booleans.{both}
 
 pub capped-small : (n : ℕ) → n ≤ largest → capped n ≡ n
 capped-small n h = omega arith
@@ -49,14 +52,6 @@ capped-over limit n h =
     (λ (g : suc largest ≤ n). lt-ltb limit (capped n) (omega arith) ∙ sym (lt-ltb limit n (omega arith)))
     (below-or-not n (suc largest))
 
-pub capped-past : (a b : ℕ) → ltb mostActivity (capped a + capped b) ≡ ltb mostActivity (a + b)
-capped-past a b =
-    ⊎-elim
-    (λ (l : a + b < suc largest). rw (capped-small a (omega arith), capped-small b (omega arith)))
-    (λ (g : suc largest ≤ a + b).
-    lt-ltb mostActivity (capped a + capped b) (omega arith) ∙ sym (lt-ltb mostActivity (a + b) (omega arith)))
-    (below-or-not (a + b) (suc largest))
-
 -- a capped sum is within a limit as the sum is
 pub capped-within : (limit n : ℕ) → limit ≤ largest → leb (capped n) limit ≡ leb n limit
 capped-within limit n h =
@@ -75,3 +70,33 @@ capped-equal a b h =
 
 pub capped-added : (a b : ℕ) → ltb largest (a + capped b) ≡ ltb largest (a + b)
 capped-added a b = sym (capped-over largest (a + capped b) (omega arith)) ∙ ap (ltb largest) (capped-more a b) ∙ capped-over largest (a + b) (omega arith)
+
+-- the sums of ground 10: each is within its limit, and then none is capped
+pub within-parts : (sums : Sums) → withinLimits sums ≡ true
+    → (sums .operation ≤ largest) × (sums .provision ≤ largest) × (sums .activity ≤ mostActivity)
+within-parts sums e =
+    let one = leb (sums .operation) largest in
+    let two = leb (sums .provision) largest in
+    let a = both (one && two) (leb (sums .activity) mostActivity) e in
+    let b = both one two (a .0) in (
+      leb-true (sums .operation) largest (b .0),
+      leb-true (sums .provision) largest (b .1),
+      leb-true (sums .activity) mostActivity (a .1),
+    )
+
+pub sums-exact : (sums : Sums) → withinLimits sums ≡ true → capSums sums ≡ sums
+sums-exact sums e =
+    let w = within-parts sums e in
+    rw (
+      capped-small (sums .operation) (w .0),
+      capped-small (sums .provision) (w .1),
+      capped-small (sums .activity) (omega (arith, w .2)),
+    )
+
+pub sums-within : (sums : Sums) → withinLimits (capSums sums) ≡ withinLimits sums
+sums-within sums =
+    rw (
+      capped-within largest (sums .operation) (omega arith),
+      capped-within largest (sums .provision) (omega arith),
+      capped-within mostActivity (sums .activity) (omega arith),
+    )

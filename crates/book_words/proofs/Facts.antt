@@ -6,13 +6,13 @@ use Prim.Native.Nat.{ℕ, _≤_}
 use lib.Dec.{leb, eqb}
 use lib.ListN.{length}
 use borrow.Author.Tests.{leb-true, eqb-true}
-use Rattle.apportion.specs.Dividing.{largest}
 use Rattle.apportion.specs.Places.{at}
 use Rattle.book_words.specs.Book.{mark, bookLength, categories, mostCategories, entries, mostEntries, elements, mostElements}
 use Rattle.book_words.specs.Parts.{CountsWithin, Limited, countIn, recordFine}
 use Rattle.book_words.specs.Soundness.{headerFine, sumsFine, categoriesFine, entriesFine, elementsFine, closingsFine, sound, allBelow}
-use Rattle.book_words.specs.Totals.{emitted, operation, provision, activities, mostActivity}
+use Rattle.book_words.specs.Totals.{operation, provision, activities, mostActivity, sumsOf, withinLimits}
 use Rattle.book_words.proofs.Booleans.{both, and-false}
+use Rattle.book_words.proofs.Capping.{within-parts}
 
 module _ (ws : List ℕ) where
   header-parts : headerFine ws ≡ true → CountsWithin ws × (at ws 0 ≡ mark)
@@ -42,24 +42,16 @@ module _ (ws : List ℕ) where
   pub header-marked : headerFine ws ≡ true → at ws 0 ≡ mark
   header-marked e = header-parts e .1
 
-  sums-parts : sumsFine ws ≡ true → (emitted ws operation ≤ largest) × (emitted ws provision ≤ largest) × (activities ws ≤ mostActivity)
+  sums-limits : sumsFine ws ≡ true → withinLimits (sumsOf ws) ≡ true
   unfolding sumsFine
-  sums-parts e =
-      let one = leb (emitted ws operation) largest in
-      let two = leb (emitted ws provision) largest in
-      let a = both (one && two) (leb (activities ws) mostActivity) e in
-      let b = both one two (a .0) in (
-        leb-true (emitted ws operation) largest (b .0),
-        leb-true (emitted ws provision) largest (b .1),
-        leb-true (activities ws) mostActivity (a .1),
-      )
+  sums-limits e = e
 
   pub sums-limited : sumsFine ws ≡ true → Limited ws
-  sums-limited e operation = sums-parts e .0
-  sums-limited e provision = sums-parts e .1
+  sums-limited e operation = within-parts (sumsOf ws) (sums-limits e) .0
+  sums-limited e provision = within-parts (sumsOf ws) (sums-limits e) .1
 
   pub sums-active : sumsFine ws ≡ true → activities ws ≤ mostActivity
-  sums-active e = sums-parts e .2
+  sums-active e = within-parts (sumsOf ws) (sums-limits e) .2
 
   -- the parts of the test
   pub record Parts : Type 0 where
@@ -94,6 +86,9 @@ module _ (ws : List ℕ) where
 
   pub sound-counted : sound ws ≡ true → CountsWithin ws
   sound-counted e = header-counted (sound-parts e .header)
+
+  pub sound-sums : sound ws ≡ true → withinLimits (sumsOf ws) ≡ true
+  sound-sums e = sums-limits (sound-parts e .sums)
 
   -- the test by its parts, as the code takes them
   pub sound-no-header : headerFine ws ≡ false → false ≡ sound ws

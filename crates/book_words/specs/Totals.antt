@@ -1,12 +1,13 @@
 -- The sums of ground 10 and of soundness. Assumes nothing.
-use mathlib.Core.Bool.{cond, Bool, _||_}
+use mathlib.Core.Bool.{cond, Bool, _||_, _&&_}
 use mathlib.Core.List.{List}
 use Prim.Native.Nat.{ℕ, _+_, min, suc}
-use lib.Dec.{eqb, ltb}
+use lib.Dec.{eqb, leb, ltb}
 use Rattle.apportion.specs.Dividing.{largest}
 use Rattle.apportion.specs.Places.{sumBelow}
 use Rattle.book_words.specs.declared.records.Element.{Element}
 use Rattle.book_words.specs.declared.records.Entry.{Entry}
+use Rattle.book_words.specs.declared.totals.Sums.{Sums}
 use Rattle.book_words.specs.Book.{entries, entryAt, elements, elementAt}
 use Rattle.book_words.specs.Measures.{massActivity}
 
@@ -65,3 +66,38 @@ passesActivity ws e = ltb mostActivity (activities ws + massActivity e)
 -- A sum of any words may pass 64 bits. The code's sums stop at 10^18 + 1, which decides every ground as the sum does.
 abbrev pub capped : ℕ → ℕ
 capped n = min n (suc largest)
+
+-- ground 10's sums over a book: "Unstruck entries plus quoted shares" of either side, and "activity over all elements"
+abbrev pub sumsOf : List ℕ → Sums
+sumsOf ws =
+    record { operation = emitted ws operation; provision = emitted ws provision; activity = activities ws }
+
+-- the same sums with one entry more, and with one element more, of which quoted shares are added
+abbrev pub withEntry : Sums → Entry → Sums
+withEntry sums e =
+    record {
+      operation = sums .operation + unstruck operation e;
+      provision = sums .provision + unstruck provision e;
+      activity = sums .activity;
+    }
+
+abbrev pub withElement : Sums → Element → Sums
+withElement sums e =
+    record {
+      operation = sums .operation + cond (eqb (e .category) 0) (e .operation) 0;
+      provision = sums .provision + cond (eqb (e .category) 0) (e .provision) 0;
+      activity = sums .activity + massActivity e;
+    }
+
+-- no sum passes its limit of ground 10
+abbrev pub withinLimits : Sums → Bool
+withinLimits sums =
+    leb (sums .operation) largest && leb (sums .provision) largest && leb (sums .activity) mostActivity
+
+abbrev pub capSums : Sums → Sums
+capSums sums =
+    record {
+      operation = capped (sums .operation);
+      provision = capped (sums .provision);
+      activity = capped (sums .activity);
+    }

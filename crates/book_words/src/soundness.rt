@@ -93,10 +93,7 @@ fn sums_fine(book: &[u64]) -> bool
     requires { ⌜ CountsWithin (now book) ⌝ }
     ensures { λ r. ⌜ r ≡ sumsFine (now (book .entry)) ⌝ }
 {
-    let sum = totals::emitted(book);
-    (sum.operation <= totals::LARGEST)
-        & (sum.provision <= totals::LARGEST)
-        & (totals::activities(book) <= totals::MOST_ACTIVITY)
+    totals::are_within(totals::capped_sums(book))
 }
 
 // Every record of every list keeps the rules.

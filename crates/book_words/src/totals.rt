@@ -6,7 +6,7 @@ ghost use lib.Dec.{eqb};
 ghost use Rattle.book_words.specs.Measures.{massActivity};
 ghost use Rattle.book_words.specs.Parts.{bySides, sideOf, CountsWithin};
 ghost use Rattle.book_words.specs.Soundness.{sound};
-ghost use Rattle.book_words.specs.Totals.{capped, unstruck as unstruckBy, allUnstruck, unstruckOf, shareOf, sharesOf, emitted as emittedBy, activities as activitiesIn, passesAmounts, passesActivity};
+ghost use Rattle.book_words.specs.Totals.{capped, unstruck as unstruckBy, allUnstruck, unstruckOf, shareOf, sharesOf, emitted as emittedBy, activities as activitiesIn, sumsOf, capSums, withEntry, withElement, withinLimits};
 use crate::records;
 use crate::records::Element;
 use crate::records::Entry;
@@ -15,12 +15,19 @@ use crate::records::Entry;
 pub const LARGEST: u64 = 1_000_000_000_000_000_000;
 
 // The largest sum of activities, 10^17.
-pub const MOST_ACTIVITY: u64 = 100_000_000_000_000_000;
+const MOST_ACTIVITY: u64 = 100_000_000_000_000_000;
 
 // An amount of operation and one of provision, kept apart.
 pub struct Amounts {
     pub operation: u64,
     pub provision: u64,
+}
+
+// The sums of ground 10: unstruck entries plus quoted shares, and the activity over all elements.
+pub struct Sums {
+    pub operation: u64,
+    pub provision: u64,
+    pub activity: u64,
 }
 
 // a + b, capped.
@@ -159,7 +166,7 @@ pub fn shares_of(book: &[u64], category: u64) -> Amounts
 }
 
 // Unstruck entries plus quoted shares.
-pub fn emitted(book: &[u64]) -> Amounts
+fn emitted(book: &[u64]) -> Amounts
     requires { ⌜ CountsWithin (now book) ⌝ }
     ensures { λ r. ⌜ r ≡ bySides (λ s. capped (emittedBy (now (book .entry)) s)) ⌝ }
 {
@@ -177,7 +184,7 @@ fn mass_activity(e: Element) -> u64
 }
 
 // The activity over all elements.
-pub fn activities(book: &[u64]) -> u64
+fn activities(book: &[u64]) -> u64
     requires { ⌜ CountsWithin (now book) ⌝ }
     ensures { λ r. ⌜ r ≡ capped (activitiesIn (now (book .entry))) ⌝ }
 {
@@ -191,19 +198,54 @@ pub fn activities(book: &[u64]) -> u64
     sum
 }
 
-// These amounts would bring operation or provision over 10^18.
-pub fn passes_amounts(book: &[u64], by_operation: u64, by_provision: u64) -> bool
-    requires { ⌜ sound (now book) ≡ true ⌝ }
-    ensures { λ r. ⌜ r ≡ passesAmounts (now (book .entry)) «by_operation» «by_provision» ⌝ }
+// The sums over a book, each capped.
+pub fn capped_sums(book: &[u64]) -> Sums
+    requires { ⌜ CountsWithin (now book) ⌝ }
+    ensures { λ r. ⌜ r ≡ capSums (sumsOf (now (book .entry))) ⌝ }
 {
-    let sum = emitted(book);
-    (LARGEST < add(sum.operation, by_operation)) | (LARGEST < add(sum.provision, by_provision))
+    let amounts = emitted(book);
+    Sums {
+        operation: amounts.operation,
+        provision: amounts.provision,
+        activity: activities(book),
+    }
 }
 
-// This element would bring the activity over 10^17.
-pub fn passes_activity(book: &[u64], e: Element) -> bool
+// The sums over a book that is known to be sound.
+pub fn sums_of(book: &[u64]) -> Sums
     requires { ⌜ sound (now book) ≡ true ⌝ }
-    ensures { λ r. ⌜ r ≡ passesActivity (now (book .entry)) e ⌝ }
+    ensures { λ r. ⌜ r ≡ sumsOf (now (book .entry)) ⌝ }
 {
-    MOST_ACTIVITY < activities(book) + mass_activity(e)
+    capped_sums(book)
+}
+
+// The sums with one entry more, capped.
+pub fn with_entry(sums: Sums, e: Entry) -> Sums
+    ensures { λ r. ⌜ r ≡ capSums (withEntry sums e) ⌝ }
+{
+    let added = unstruck(e);
+    Sums {
+        operation: add(sums.operation, added.operation),
+        provision: add(sums.provision, added.provision),
+        activity: add(sums.activity, 0),
+    }
+}
+
+// The sums with one element more, capped.
+pub fn with_element(sums: Sums, e: Element) -> Sums
+    ensures { λ r. ⌜ r ≡ capSums (withElement sums e) ⌝ }
+{
+    let quoted = share_in(0, e);
+    Sums {
+        operation: add(sums.operation, quoted.operation),
+        provision: add(sums.provision, quoted.provision),
+        activity: add(sums.activity, mass_activity(e)),
+    }
+}
+
+// The sums are within the limits of refusal 10.
+pub fn are_within(sums: Sums) -> bool
+    ensures { λ r. ⌜ r ≡ withinLimits sums ⌝ }
+{
+    (sums.operation <= LARGEST) & (sums.provision <= LARGEST) & (sums.activity <= MOST_ACTIVITY)
 }

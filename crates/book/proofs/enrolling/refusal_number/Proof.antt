@@ -1,31 +1,32 @@
 -- `book::enrolling::refusal_number` meets its contract: each return is the ground of its own test, after those that did
 -- not hold. Assumes nothing.
-use mathlib.Core.Bool.{not, false, true, _&&_}
+use mathlib.Core.Bool.{not, false, true}
+use mathlib.Core.List.{List}
 use mathlib.Core.Path.{_≡_, ap, _∙_, sym, refl}
 use Prim.Native.Nat.{ℕ}
 use native.Mathlib.Omega.{arith}
-use lib.ListN.{drop}
+use lib.ListN.{take, drop}
 use borrow.Author.Needs.{needs}
-use borrow.Author.Tests.{lt-leb, le-leb, not-false}
-use Rattle.apportion.specs.Grounds.{firstOf}
-use Rattle.book_words.specs.Book.{categoryOf, mostElements, elements, categories}
-use Rattle.book_words.specs.Measures.{isChain, isCode, unsuited, isAmount, isDistance, between}
-use Rattle.book_words.specs.Totals.{passesActivity}
-use Rattle.book.specs.Calls.{enrolRefusal, enrolGrounds}
+use borrow.Author.Tests.{lt-leb, le-leb}
+use Rattle.apportion.specs.Grounds.{Ground, firstOf}
+use Rattle.book_words.specs.Book.{categoryOf, mostElements, elements}
+use Rattle.book_words.specs.Measures.{isChain, isCode, unsuited, isAmount, isDistance}
+use Rattle.book.specs.Calls.{enrolGrounds}
 use Rattle.apportion.proofs.Grounds.{passed, stopped}
-use Rattle.book_words.proofs.Booleans.{both}
 use Rattle.book_words.proofs.Facts.{sound-counted}
 use Rattle.book_words.proofs.Numbered.{was-open, of-kind, was-closed}
 use Rattle.book.proofs.Refusing.{not-is2}
 use Rattle.book.proofs.enrolling.refusal_number.Statement.{statement}
 use Rattle.book.proofs.enrolling.refusal_number.Tie as tie
 
--- the first so many grounds do not hold
+-- the grounds before 10, and that the first so many of them do not hold
+abbrev Before : tie.Start → List Ground
+Before s = take 7 (enrolGrounds (s .args .book .now) (s .args .category) (s .args .chain) (s .args .code) (s .args .amount) (s .args .distance))
+
 abbrev Past : ℕ → tie.Start → Type 0
-Past k s = enrolRefusal (s .args .book .now) (s .args .category) (s .args .chain) (s .args .code) (s .args .amount) (s .args .distance) ≡ firstOf (drop k (enrolGrounds (s .args .book .now) (s .args .category) (s .args .chain) (s .args .code) (s .args .amount) (s .args .distance)))
+Past k s = firstOf (Before s) ≡ firstOf (drop k (Before s))
 
 past-1 : (s : tie.Start) → Past 1 s
-unfolding enrolRefusal
 past-1 s = passed 1 (ap not (s .pre))
 
 past-2 : (c : tie.Else1) → Past 2 (c .before .before .before)
@@ -58,11 +59,6 @@ past-7 : (c : tie.Else6) → Past 7 (c .before .before .before .before .before .
 past-7 c =
     let s = c .before .before .before .before .before .before .before .before .before .before .before .before .before .before .before .before in
     past-6 (c .before .before) ∙ passed 8 (lt-leb mostElements (elements (s .args .book .now)) (c .if6 .left))
-
-past-8 : (c : tie.Else7) → Past 8 (c .before .before .before .before .before .before .before .before .before .before .before .before .before .before .before .before .before .before .before)
-past-8 c =
-    let s = c .before .before .before .before .before .before .before .before .before .before .before .before .before .before .before .before .before .before .before in
-    past-7 (c .before .before .before) ∙ passed 10 (ap (passesActivity (s .args .book .now)) (sym (c .before .before .enrolled .ensures)) ∙ sym (c .before .passes-activity .ensures) ∙ c .if7 .left)
 
 shared-slice-read-if1 : tie.Need-shared-slice-read-if1
 shared-slice-read-if1 c = omega (arith, sound-counted (c .before .before .args .book .now) (c .before .before .pre) .long)
@@ -119,33 +115,8 @@ returns-6 c =
     let s = c .before .before .before .before .before .before .before .before .before .before .before .before .before .before .before .before in
     sym (past-6 (c .before .before) ∙ stopped 8 _ (le-leb mostElements (elements (s .args .book .now)) (c .if6 .taken)))
 
-enrolled-requires : tie.Need-enrolled-requires
-enrolled-requires c κs =
-    let known = both (c .before .before .before .before .before .before .before .before .before .before .before .before .is-chain .result) (c .before .before .before .before .before .before .before .before .before .before .before .is-code .result) (not-false (c .before .before .before .before .before .before .before .before .before .before .before .before .is-chain .result && c .before .before .before .before .before .before .before .before .before .before .before .is-code .result) (c .before .before .before .before .before .before .before .before .before .before .if2 .left)) in
-    let fine = both (c .before .before .before .before .is-amount .result) (c .before .before .before .is-distance .result) (not-false (c .before .before .before .before .is-amount .result && c .before .before .before .is-distance .result) (c .before .before .if5 .left)) in (
-      c .before .before .before .before .before .before .before .before .before .before .before .before .before .before .before .before .pre,
-      (
-        not-false (between 1 (categories (c .before .before .before .before .before .before .before .before .before .before .before .before .before .before .before .before .args .book .now)) (c .before .before .before .before .before .before .before .before .before .before .before .before .before .before .before .before .args .category)) (c .before .before .before .before .before .before .before .before .before .before .before .before .before .if1 .left),
-        (
-          sym (c .before .before .before .before .before .before .before .before .before .before .before .is-code .ensures) ∙ known .1,
-          (
-            sym (c .before .before .before .before .is-amount .ensures) ∙ fine .0,
-            of-kind (c .before .before .before .before .before .before .before .before .before .before .before .before .before .before .before .before .args .book .now) (c .before .before .before .before .before .before .before .before .before .before .before .before .before .before .before .before .args .category) (c .before .before .before .before .before .before .before .before .before .category-of .result) (c .before .before .before .before .before .before .before .before .before .category-of .ensures) (c .before .before .before .before .before .before .before .before .before .before .before .before .before .if1 .left) (λ k. isDistance k (c .before .before .before .before .before .before .before .before .before .before .before .before .before .before .before .before .args .distance)) (c .before .before .before .is-distance .result) true (c .before .before .before .is-distance .ensures) (fine .1),
-          ),
-        ),
-      ),
-    )
-
-passes-activity-requires : tie.Need-passes-activity-requires
-passes-activity-requires c κs = search needs
-
 returns-7 : tie.Need-returns-7
-returns-7 c =
-    let s = c .before .before .before .before .before .before .before .before .before .before .before .before .before .before .before .before .before .before .before in
-    sym (past-7 (c .before .before .before) ∙ stopped 10 _ (ap (passesActivity (s .args .book .now)) (sym (c .before .before .enrolled .ensures)) ∙ sym (c .before .passes-activity .ensures) ∙ c .if7 .taken))
-
-returns-8 : tie.Need-returns-8
-returns-8 c = sym (past-8 c)
+returns-7 c = sym (past-7 c)
 
 pub refusal-number-spec : {M : Type 1} → statement M
 refusal-number-spec =
@@ -165,7 +136,4 @@ refusal-number-spec =
     returns-5
     shared-slice-read-if6
     returns-6
-    enrolled-requires
-    passes-activity-requires
-    returns-7
-    returns-8)
+    returns-7)

@@ -1,29 +1,31 @@
 -- `book::posting::refusal_number` meets its contract: each return is the ground of its own test, after those that did not
 -- hold. Assumes nothing.
 use mathlib.Core.Bool.{not, false, true}
+use mathlib.Core.List.{List}
 use mathlib.Core.Path.{_≡_, ap, _∙_, sym}
-use Prim.Native.Nat.{ℕ, _*_}
+use Prim.Native.Nat.{ℕ}
 use native.Mathlib.Omega.{arith}
-use lib.ListN.{drop}
+use lib.ListN.{take, drop}
 use borrow.Author.Needs.{needs}
 use borrow.Author.Tests.{le-leb, lt-leb}
-use Rattle.apportion.specs.Grounds.{firstOf}
+use Rattle.apportion.specs.Grounds.{Ground, firstOf}
 use Rattle.book_words.specs.Book.{mostEntries, entries}
 use Rattle.book_words.specs.Measures.{unsuitedGroup}
-use Rattle.book.specs.Calls.{postRefusal, postGrounds}
+use Rattle.book.specs.Calls.{postGrounds}
 use Rattle.apportion.proofs.Grounds.{passed, stopped}
 use Rattle.book_words.proofs.Facts.{sound-counted}
 use Rattle.book_words.proofs.Numbered.{was-open, of-kind, was-closed}
-use Rattle.book.proofs.Refusing.{post-passes}
 use Rattle.book.proofs.posting.refusal_number.Statement.{statement}
 use Rattle.book.proofs.posting.refusal_number.Tie as tie
 
--- the first so many grounds do not hold
+-- the grounds before 10, and that the first so many of them do not hold
+abbrev Before : tie.Start → List Ground
+Before s = take 7 (postGrounds (s .args .book .now) (s .args .category) (s .args .group) (s .args .quantity) (s .args .operation-factor) (s .args .provision-factor))
+
 abbrev Past : ℕ → tie.Start → Type 0
-Past k s = postRefusal (s .args .book .now) (s .args .category) (s .args .group) (s .args .quantity) (s .args .operation-factor) (s .args .provision-factor) ≡ firstOf (drop k (postGrounds (s .args .book .now) (s .args .category) (s .args .group) (s .args .quantity) (s .args .operation-factor) (s .args .provision-factor)))
+Past k s = firstOf (Before s) ≡ firstOf (drop k (Before s))
 
 past-1 : (s : tie.Start) → Past 1 s
-unfolding postRefusal
 past-1 s = passed 1 (ap not (s .pre))
 
 past-2 : (c : tie.Else1) → Past 2 (c .before .before .before)
@@ -53,11 +55,6 @@ past-7 : (c : tie.Else6) → Past 7 (c .before .before .before .before .before .
 past-7 c =
     let s = c .before .before .before .before .before .before .before .before .before .before .before .before in
     past-6 (c .before .before) ∙ passed 8 (lt-leb mostEntries (entries (s .args .book .now)) (c .if6 .left))
-
-past-8 : (c : tie.Else7) → Past 8 (c .before .before .before .before .before .before .before .before .before .before .before .before .before .before .before .before)
-past-8 c =
-    let s = c .before .before .before .before .before .before .before .before .before .before .before .before .before .before .before .before in
-    past-7 (c .before .before .before .before) ∙ passed 10 (post-passes (s .args .book .now) (s .args .quantity * s .args .operation-factor) (s .args .quantity * s .args .provision-factor) (c .before .before .before .multiply .result) (c .before .before .multiply2 .result) (c .before .passes-amounts .result) (c .before .before .before .multiply .ensures) (c .before .before .multiply2 .ensures) (c .before .passes-amounts .ensures) ∙ c .if7 .left)
 
 shared-slice-read-if1 : tie.Need-shared-slice-read-if1
 shared-slice-read-if1 c = omega (arith, sound-counted (c .before .before .args .book .now) (c .before .before .pre) .long)
@@ -99,22 +96,8 @@ returns-6 c =
     let s = c .before .before .before .before .before .before .before .before .before .before .before .before in
     sym (past-6 (c .before .before) ∙ stopped 8 _ (le-leb mostEntries (entries (s .args .book .now)) (c .if6 .taken)))
 
-multiply-requires : tie.Need-multiply-requires
-multiply-requires c κs = search needs
-
-multiply-requires-2 : tie.Need-multiply-requires-2
-multiply-requires-2 c κs = search needs
-
-passes-amounts-requires : tie.Need-passes-amounts-requires
-passes-amounts-requires c κs = search needs
-
 returns-7 : tie.Need-returns-7
-returns-7 c =
-    let s = c .before .before .before .before .before .before .before .before .before .before .before .before .before .before .before .before in
-    sym (past-7 (c .before .before .before .before) ∙ stopped 10 _ (post-passes (s .args .book .now) (s .args .quantity * s .args .operation-factor) (s .args .quantity * s .args .provision-factor) (c .before .before .before .multiply .result) (c .before .before .multiply2 .result) (c .before .passes-amounts .result) (c .before .before .before .multiply .ensures) (c .before .before .multiply2 .ensures) (c .before .passes-amounts .ensures) ∙ c .if7 .taken))
-
-returns-8 : tie.Need-returns-8
-returns-8 c = sym (past-8 c)
+returns-7 c = sym (past-7 c)
 
 pub refusal-number-spec : {M : Type 1} → statement M
 refusal-number-spec =
@@ -130,8 +113,4 @@ refusal-number-spec =
     returns-5
     shared-slice-read-if6
     returns-6
-    multiply-requires
-    multiply-requires-2
-    passes-amounts-requires
-    returns-7
-    returns-8)
+    returns-7)

@@ -1,31 +1,32 @@
 -- `book::quoting::refusal_number` meets its contract: each return is the ground of its own test, after those that did not
 -- hold. Assumes nothing.
 use mathlib.Core.Bool.{not, Bool, _&&_}
+use mathlib.Core.List.{List}
 use mathlib.Core.Path.{_≡_, ap, _∙_, sym}
 use Prim.Native.Nat.{ℕ}
 use native.Mathlib.Omega.{arith}
 use lib.Dec.{leb}
-use lib.ListN.{drop}
+use lib.ListN.{take, drop}
 use borrow.Author.Needs.{needs}
-use borrow.Author.Tests.{lt-leb, le-leb, not-false}
-use Rattle.apportion.specs.Grounds.{firstOf}
+use borrow.Author.Tests.{lt-leb, le-leb}
+use Rattle.apportion.specs.Grounds.{Ground, firstOf}
 use Rattle.book_words.specs.Book.{mostElements, elements}
 use Rattle.book_words.specs.Measures.{isAmount, isDistance, isIntensity}
-use Rattle.book.specs.Calls.{quoteRefusal, quoteGrounds}
+use Rattle.book.specs.Calls.{quoteGrounds}
 use Rattle.apportion.proofs.Grounds.{passed, stopped}
-use Rattle.book_words.proofs.Booleans.{both}
 use Rattle.book_words.proofs.Facts.{sound-counted}
-use Rattle.book.proofs.Quotes.{quotable}
-use Rattle.book.proofs.Refusing.{not-is4, quote-passes}
+use Rattle.book.proofs.Refusing.{not-is4}
 use Rattle.book.proofs.quoting.refusal_number.Statement.{statement}
 use Rattle.book.proofs.quoting.refusal_number.Tie as tie
 
--- the first so many grounds do not hold
+-- the grounds before 10, and that the first so many of them do not hold
+abbrev Before : tie.Start → List Ground
+Before s = take 4 (quoteGrounds (s .args .book .now) (s .args .chain) (s .args .adjust) (s .args .mass) (s .args .distance) (s .args .operation-intensity) (s .args .provision-intensity))
+
 abbrev Past : ℕ → tie.Start → Type 0
-Past k s = quoteRefusal (s .args .book .now) (s .args .chain) (s .args .adjust) (s .args .mass) (s .args .distance) (s .args .operation-intensity) (s .args .provision-intensity) ≡ firstOf (drop k (quoteGrounds (s .args .book .now) (s .args .chain) (s .args .adjust) (s .args .mass) (s .args .distance) (s .args .operation-intensity) (s .args .provision-intensity)))
+Past k s = firstOf (Before s) ≡ firstOf (drop k (Before s))
 
 past-1 : (s : tie.Start) → Past 1 s
-unfolding quoteRefusal
 past-1 s = passed 1 (ap not (s .pre))
 
 past-2 : (c : tie.Else1) → Past 2 (c .before .before .before)
@@ -42,11 +43,6 @@ past-4 : (c : tie.Else3) → Past 4 (c .before .before .before .before .before .
 past-4 c =
     let s = c .before .before .before .before .before .before .before .before in
     past-3 (c .before .before) ∙ passed 8 (lt-leb mostElements (elements (s .args .book .now)) (c .if3 .left))
-
-past-5 : (c : tie.Else4) → Past 5 (c .before .before .before .before .before .before .before .before .before .before .before .before)
-past-5 c =
-    let s = c .before .before .before .before .before .before .before .before .before .before .before .before in
-    past-4 (c .before .before .before .before) ∙ passed 10 (quote-passes (s .args .book .now) (s .args .chain) (s .args .adjust) (s .args .mass) (s .args .distance) (s .args .operation-intensity) (s .args .provision-intensity) (c .before .before .before .quoted .result) (c .before .before .passes-amounts .result) (c .before .passes-activity .result) (c .before .before .before .quoted .ensures) (c .before .before .passes-amounts .ensures) (c .before .passes-activity .ensures) ∙ c .if4 .left)
 
 is-chain-requires : tie.Need-is-chain-requires
 is-chain-requires c κs = search needs
@@ -75,29 +71,8 @@ returns-3 c =
     let s = c .before .before .before .before .before .before .before .before in
     sym (past-3 (c .before .before) ∙ stopped 8 _ (le-leb mostElements (elements (s .args .book .now)) (c .if3 .taken)))
 
-quoted-requires : tie.Need-quoted-requires
-quoted-requires c κs =
-    let sizes = c .before .before .before .before .is-amount .result && c .before .before .before .is-distance .result in
-    let all = both (sizes && isIntensity (c .before .before .before .before .before .before .before .before .args .operation-intensity)) (isIntensity (c .before .before .before .before .before .before .before .before .args .provision-intensity)) (not-false (sizes && isIntensity (c .before .before .before .before .before .before .before .before .args .operation-intensity) && isIntensity (c .before .before .before .before .before .before .before .before .args .provision-intensity)) (c .before .before .if2 .left)) in
-    let most = both sizes (isIntensity (c .before .before .before .before .before .before .before .before .args .operation-intensity)) (all .0) in
-    let some = both (c .before .before .before .before .is-amount .result) (c .before .before .before .is-distance .result) (most .0) in (
-      quotable (c .before .before .before .before .before .before .before .before .args .mass) (c .before .before .before .before .before .before .before .before .args .distance) (c .before .before .before .before .before .before .before .before .args .operation-intensity) (sym (c .before .before .before .before .is-amount .ensures) ∙ some .0) (sym (c .before .before .before .is-distance .ensures) ∙ some .1) (most .1),
-      quotable (c .before .before .before .before .before .before .before .before .args .mass) (c .before .before .before .before .before .before .before .before .args .distance) (c .before .before .before .before .before .before .before .before .args .provision-intensity) (sym (c .before .before .before .before .is-amount .ensures) ∙ some .0) (sym (c .before .before .before .is-distance .ensures) ∙ some .1) (all .1),
-    )
-
-passes-amounts-requires : tie.Need-passes-amounts-requires
-passes-amounts-requires c κs = search needs
-
-passes-activity-requires : tie.Need-passes-activity-requires
-passes-activity-requires c κs = search needs
-
 returns-4 : tie.Need-returns-4
-returns-4 c =
-    let s = c .before .before .before .before .before .before .before .before .before .before .before .before in
-    sym (past-4 (c .before .before .before .before) ∙ stopped 10 _ (quote-passes (s .args .book .now) (s .args .chain) (s .args .adjust) (s .args .mass) (s .args .distance) (s .args .operation-intensity) (s .args .provision-intensity) (c .before .before .before .quoted .result) (c .before .before .passes-amounts .result) (c .before .passes-activity .result) (c .before .before .before .quoted .ensures) (c .before .before .passes-amounts .ensures) (c .before .passes-activity .ensures) ∙ c .if4 .taken))
-
-returns-5 : tie.Need-returns-5
-returns-5 c = sym (past-5 c)
+returns-4 c = sym (past-4 c)
 
 pub refusal-number-spec : {M : Type 1} → statement M
 refusal-number-spec =
@@ -110,8 +85,4 @@ refusal-number-spec =
     returns-2
     shared-slice-read-if3
     returns-3
-    quoted-requires
-    passes-amounts-requires
-    passes-activity-requires
-    returns-4
-    returns-5)
+    returns-4)

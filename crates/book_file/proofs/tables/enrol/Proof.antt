@@ -1,8 +1,9 @@
 -- `book_file::tables::enrol` meets its contract. Ground 13 comes first; then the call is as
 -- `enrol_sound` ensures. Assumes nothing.
-use mathlib.Core.Path.{ap, sym}
+use mathlib.Core.Path.{_∙_, ap, sym}
 use borrow.Author.Needs.{needs}
 use Rattle.book.specs.declared.replies.Reply.{Reply}
+use Rattle.book_file.specs.declared.tables.Reached.{Reached}
 use Rattle.book_file.specs.Loading.{enrolling}
 use Rattle.book_file.proofs.Carrying.{made-broken, call-made}
 use Rattle.book_file.proofs.tables.enrol.Statement.{statement}
@@ -10,14 +11,14 @@ use Rattle.book_file.proofs.tables.enrol.Tie as tie
 
 returns : tie.Need-returns
 returns c =
-    let args = c .before .before .before .before .before .args in
-    sym (made-broken (args .book .now) (enrolling (args .number) (args .element)) (c .if1 .taken))
+    let s = c .before .before .before .before .before in
+    (sym (made-broken (s .args .book .now) (enrolling (s .args .number) (s .args .element)) (c .if1 .taken)), s .pre .1)
 
 enrol-sound-requires : tie.Need-enrol-sound-requires
 enrol-sound-requires c κs = search needs
 
-answer-at-requires : tie.Need-answer-at-requires
-answer-at-requires c κs = search needs
+counted-at-requires : tie.Need-counted-at-requires
+counted-at-requires c κs = search needs
 
 same-length : tie.Need-same-length
 same-length c = search needs
@@ -27,10 +28,14 @@ returns-2 c =
     let called = c .before .before .before in
     let test = called .before .before in
     let args = test .before .before .before .before .before .args in
-    call-made (args .book .now) (enrolling (args .number) (args .element)) (test .if1 .left)
-    (ap (λ (r : Reply). r .refusal) (called .enrol-sound .ensures .0), called .enrol-sound .ensures .1)
-    (c .answer-at .ensures)
+    let whole = called .enrol-sound .ensures in
+    let at = c .counted-at .ensures in (
+      call-made (args .book .now) (enrolling (args .number) (args .element)) (test .if1 .left)
+          (ap (λ (r : Reply). r .refusal) (whole .0), whole .1 .0)
+          (ap (λ (r : Reached). r .answer) at),
+      ap (λ (r : Reached). r .sums) at ∙ whole .1 .1,
+    )
 
 pub enrol-spec : {M : Type 1} → statement M
 enrol-spec =
-    tie.close (tie.spec returns enrol-sound-requires answer-at-requires same-length returns-2)
+    tie.close (tie.spec returns enrol-sound-requires counted-at-requires same-length returns-2)

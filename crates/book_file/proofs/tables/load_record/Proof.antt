@@ -9,6 +9,7 @@ use Rattle.book_file.specs.declared.records.ElementRecord.{ElementRecord
 use Rattle.book_file.specs.declared.tables.Table.{Table}
 use Rattle.book_file.specs.File.{recordAt, categoryRecord, entryRecord, elementRecord}
 use Rattle.book_file.specs.Loading.{sectionOf, opening, posting, enrollingOrQuoting, made, madeClosing}
+use Rattle.book_file.proofs.Carrying.{opening-sums, closing-sums, known-still}
 use Rattle.book_file.proofs.tables.load_record.Statement.{statement}
 use Rattle.book_file.proofs.tables.load_record.Tie as tie
 
@@ -17,7 +18,7 @@ position : (c : tie.After-record-at)
     → c .record-at .result ≡ recordAt (sectionOf (c .before .before .before .args .file .now) (c .before .before .before .args .table)) (c .before .before .before .args .place)
 position c =
     let s = c .before .before .before in
-    c .record-at .ensures .0 ∙ ap (λ (of : Section). recordAt of (s .args .place)) (s .pre .1 .0)
+    c .record-at .ensures .0 ∙ ap (λ (of : Section). recordAt of (s .args .place)) (s .pre .1 .1 .0)
 
 record-at-requires : tie.Need-record-at-requires
 record-at-requires c κs = search needs
@@ -70,11 +71,15 @@ returns c =
     let read = called .before in
     let told = read .before .before in
     let at = told .before .before in
-    let args = at .before .before .before .args in
+    let s = at .before .before .before in
+    let args = s .args in
     let is = told .enum-told .given .1 in
     let there = position at ∙ ap (λ (t : Table). recordAt (sectionOf (args .file .now) t) (args .place)) is in
-    rw is
-    (called .«open» .ensures ∙ ap (λ (r : CategoryRecord). made (args .book .now) (opening (args .place + 1) r)) (read .category .ensures ∙ ap (categoryRecord (args .file .now)) there))
+    let whole = called .«open» .ensures in (
+      rw is
+          (whole ∙ ap (λ (r : CategoryRecord). made (args .book .now) (opening (args .place + 1) r)) (read .category .ensures ∙ ap (categoryRecord (args .file .now)) there)),
+      known-still (args .book .now) (called .«open» .last .0) _ (s .pre .1 .0) whole (opening-sums (args .book .now) (args .place + 1) (read .category .result)),
+    )
 
 same-length-2 : tie.Need-same-length-2
 same-length-2 c = search needs
@@ -85,11 +90,15 @@ returns-2 c =
     let read = called .before in
     let told = read .before .before in
     let at = told .before .before in
-    let args = at .before .before .before .args in
+    let s = at .before .before .before in
+    let args = s .args in
     let is = told .enum-told2 .given .1 in
     let there = position at ∙ ap (λ (t : Table). recordAt (sectionOf (args .file .now) t) (args .place)) is in
-    rw is
-    (called .post .ensures ∙ ap (λ (r : EntryRecord). made (args .book .now) (posting (args .place + 1) r)) (read .entry .ensures ∙ ap (entryRecord (args .file .now)) there))
+    let whole = called .post .ensures in (
+      rw is
+          (whole .0 ∙ ap (λ (r : EntryRecord). made (args .book .now) (posting (args .place + 1) r)) (read .entry .ensures ∙ ap (entryRecord (args .file .now)) there)),
+      whole .1,
+    )
 
 same-length-3 : tie.Need-same-length-3
 same-length-3 c = search needs
@@ -100,11 +109,15 @@ returns-3 c =
     let read = called .before in
     let told = read .before .before in
     let at = told .before .before in
-    let args = at .before .before .before .args in
+    let s = at .before .before .before in
+    let args = s .args in
     let is = told .enum-told3 .given .1 in
     let there = position at ∙ ap (λ (t : Table). recordAt (sectionOf (args .file .now) t) (args .place)) is in
-    rw is
-    (called .enrol-or-quote .ensures ∙ ap (λ (r : ElementRecord). made (args .book .now) (enrollingOrQuoting (args .place + 1) r)) (read .element .ensures ∙ ap (elementRecord (args .file .now)) there))
+    let whole = called .enrol-or-quote .ensures in (
+      rw is
+          (whole .0 ∙ ap (λ (r : ElementRecord). made (args .book .now) (enrollingOrQuoting (args .place + 1) r)) (read .element .ensures ∙ ap (elementRecord (args .file .now)) there)),
+      whole .1,
+    )
 
 same-length-4 : tie.Need-same-length-4
 same-length-4 c = search needs
@@ -115,11 +128,15 @@ returns-4 c =
     let read = called .before in
     let told = read .before .before in
     let at = told .before .before in
-    let args = at .before .before .before .args in
+    let s = at .before .before .before in
+    let args = s .args in
     let is = told .enum-told4 .given .1 in
     let there = position at ∙ ap (λ (t : Table). recordAt (sectionOf (args .file .now) t) (args .place)) is in
-    rw is
-    (called .close .ensures ∙ ap (madeClosing (args .book .now) (args .place + 1)) (read .category2 .ensures ∙ ap (categoryRecord (args .file .now)) there))
+    let whole = called .close .ensures in (
+      rw is
+          (whole ∙ ap (madeClosing (args .book .now) (args .place + 1)) (read .category2 .ensures ∙ ap (categoryRecord (args .file .now)) there)),
+      known-still (args .book .now) (called .close .last .0) _ (s .pre .1 .0) whole (closing-sums (args .book .now) (args .place + 1) (read .category2 .result)),
+    )
 
 pub load-record-spec : {M : Type 1} → statement M
 load-record-spec =
