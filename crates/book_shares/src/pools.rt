@@ -2,7 +2,7 @@
 ghost use mathlib.Core.Bool.{true};
 ghost use mathlib.Core.Path.{_≡_};
 ghost use Rattle.book_words.specs.Soundness.{sound};
-ghost use Rattle.book_shares.specs.Dealing.{sideAt};
+ghost use Rattle.book_shares.specs.Dealing.{sideAt, poolsBy, groupPool};
 ghost use Rattle.book_shares.specs.Sums.{pooled as pooledBy, pool as poolOf};
 use book_words::Entry;
 
@@ -42,4 +42,35 @@ pub fn pool(book: &[u64], category: u64, group: u64, stage: Stage) -> u64
         passed += 1;
     }
     sum
+}
+
+// The three pools of a category, on one side.
+pub struct Pools {
+    // A.
+    pub all: u64,
+    // B1 and B2.
+    pub chilled: u64,
+    pub frozen: u64,
+}
+
+// A, B1 and B2.
+pub fn pools_of(book: &[u64], category: u64, stage: Stage) -> Pools
+    requires { ⌜ sound (now book) ≡ true ⌝ }
+    ensures { λ r. ⌜ r ≡ poolsBy (now (book .entry)) category (sideAt stage) ⌝ }
+{
+    Pools {
+        all: pool(book, category, 0, stage),
+        chilled: pool(book, category, 1, stage),
+        frozen: pool(book, category, 2, stage),
+    }
+}
+
+// The pool of group 1 or of group 2.
+pub fn group_pool(pools: Pools, group: u64) -> u64
+    ensures { λ r. ⌜ r ≡ groupPool pools group ⌝ }
+{
+    if group == 1 {
+        return pools.chilled;
+    }
+    pools.frozen
 }
