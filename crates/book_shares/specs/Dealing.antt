@@ -9,7 +9,8 @@ use Rattle.apportion.specs.Places.{at}
 use Rattle.book_words.specs.Book.{categories, putShares}
 use Rattle.book_words.specs.Measures.{between, isHub}
 use Rattle.book_words.specs.Soundness.{sound}
-use Rattle.book_words.specs.Totals.{Side, operation, provision}
+use Rattle.book_words.specs.Totals.{Side, operation, provision, unstruck, capped}
+use Rattle.book_words.specs.declared.records.Entry.{Entry}
 use Rattle.book_shares.specs.declared.pools.Pools.{Pools}
 use Rattle.book_shares.specs.declared.pools.Stage.{Stage}
 use Rattle.book_shares.specs.declared.pools.Stage.the-variants.{Operation, Provision}
@@ -24,6 +25,21 @@ use Rattle.book_shares.specs.Sums.{activityAmong, passengersByMass, pool
 abbrev pub sideAt : Stage → Side
 sideAt Operation = operation
 sideAt Provision = provision
+
+-- what an entry of the category adds to the pool of this group
+abbrev pub inGroup : ℕ → Side → Entry → ℕ
+inGroup group side e = cond (eqb (e .group) group) (unstruck side e) 0
+
+-- the pools with what an entry adds to them, where it is of the category
+abbrev pub poolsWith : Pools → ℕ → Side → Entry → Pools
+poolsWith pools category side e =
+    cond (eqb (e .category) category)
+    (record {
+      all = capped (pools .all + inGroup 0 side e);
+      chilled = capped (pools .chilled + inGroup 1 side e);
+      frozen = capped (pools .frozen + inGroup 2 side e);
+    })
+    pools
 
 -- A, B1 and B2 of a side
 abbrev pub poolsBy : List ℕ → ℕ → Side → Pools
