@@ -1,12 +1,13 @@
 -- Amounts that are divided and dealt out, as the code does it. Assumes nothing.
 use mathlib.Core.Bool.{_&&_, true, false}
 use mathlib.Core.List.{List, _∷_, []}
-use mathlib.Core.Logic.{⊎-elim}
-use mathlib.Core.Path.{_≡_, refl, ap, _∙_}
+use mathlib.Core.Logic.{⊎-elim, inl, inr}
+use mathlib.Core.Path.{_≡_, refl, ap, _∙_, sym}
 use Prim.Native.Nat.{ℕ, _≤_, _<_, _+_, zero, suc}
 use native.Mathlib.Omega.{arith}
 use lib.Dec.{ltb, eqb}
 use lib.ListN.{length, List·getD-eq-default, take, replicate}
+use lib.Seq.{ext-getD}
 use borrow.Author.Tests.{eq-eqb, le-ltb, ne-eqb}
 use Rattle.apportion.specs.Dividing.{divided, largest, Divisible, sharesAfter, refusal}
 use Rattle.apportion.specs.Places.{at, sumOf, listBelow}
@@ -21,8 +22,8 @@ use Rattle.book_shares.specs.Listing.{members, Listed, atPlaces, weights
 use Rattle.book_shares.specs.Shares.{weights, partAt, dividedAll, freightPart, passengerPart, closingShare}
 use Rattle.book_shares.specs.Sums.{pool}
 use Rattle.apportion.proofs.Grounds.{accepted-new}
-use Rattle.apportion.proofs.Laws.{shares-sum}
-use Rattle.apportion.proofs.Lists.{list-at, list-past, list-cong}
+use Rattle.apportion.proofs.Laws.{shares-length, shares-sum, share-of-zero}
+use Rattle.apportion.proofs.Lists.{list-at, list-past, list-cong, list-length}
 use Rattle.apportion.proofs.Sums.{sum-some, below-or-not}
 use Rattle.book_words.proofs.Booleans.{and-false}
 use Rattle.book_shares.proofs.Listed.{activity-members, mass-members, parts-members, weights-at-length, weights-at-sum, listed-few, listed-activity}
@@ -131,6 +132,32 @@ all-divided a f p old new two within served few is =
       le-ltb largest (sumOf (f ∷ p ∷ [])) (omega (arith, total)),
       and-false (ltb 0 a) false refl,
     ))
+
+-- where one of the weights is 0, the other gets all of A
+module _ (a f p : ℕ) (served : 0 < f + p) where
+  parts-whole : (at (divided a (f ∷ p ∷ [])) 0 + at (divided a (f ∷ p ∷ [])) 1 ≡ a) × (0 < sumOf (f ∷ p ∷ []))
+  parts-whole =
+      let some : 0 < sumOf (f ∷ p ∷ []) = rw (sum-two (f ∷ p ∷ []) refl) served in
+      (sym (sum-two (divided a (f ∷ p ∷ [])) (shares-length a (f ∷ p ∷ []))) ∙ shares-sum a (f ∷ p ∷ []) (inl some), some)
+
+  pub all-freight : p ≡ 0 → record { freight = a; passengers = 0 } ≡ partsBy a f p
+  all-freight none =
+      let nothing = share-of-zero a (f ∷ p ∷ []) (inl (parts-whole .1)) 1 none in
+      let all : at (divided a (f ∷ p ∷ [])) 0 ≡ a = omega (arith, parts-whole .0) in
+      rw (all, nothing)
+
+  pub all-passengers : f ≡ 0 → record { freight = 0; passengers = a } ≡ partsBy a f p
+  all-passengers none =
+      let nothing = share-of-zero a (f ∷ p ∷ []) (inl (parts-whole .1)) 0 none in
+      let all : at (divided a (f ∷ p ∷ [])) 1 ≡ a = omega (arith, parts-whole .0) in
+      rw (all, nothing)
+
+-- an amount of 0 adds nothing
+pub nothing-dealt : (amount n : ℕ) (weights shares : List ℕ) → amount ≡ 0 → length shares ≡ n → shares ≡ listBelow n (λ k. at shares k + at (divided amount weights) k)
+nothing-dealt amount n weights shares none long =
+    let f : ℕ → ℕ = λ k. at shares k + at (divided amount weights) k in
+    ext-getD 0 shares (listBelow n f) (long ∙ sym (list-length n f))
+    (λ k h. omega (arith, list-at n f k (omega arith), at-most-sum (divided amount weights) k, shares-sum amount weights (inr none)))
 
 -- part of an array that is 0
 pub zeros-at : (n m k : ℕ) → at (take n (replicate m 0)) k ≡ 0

@@ -23,11 +23,23 @@ pub struct Parts {
     pub passengers: u64,
 }
 
-// Divides A by the weights F and P, in that order.
+// Divides A by the weights F and P, in that order. Where one of them is 0, the other gets all.
 pub fn divide_all(all: u64, activity: u64, mass: u64) -> Parts
     requires { ⌜ (all ≤ largest) × (0 < activity + mass) × (activity + mass ≤ largest) ⌝ }
     ensures { λ r. ⌜ r ≡ partsBy all activity mass ⌝ }
 {
+    if mass == 0 {
+        return Parts {
+            freight: all,
+            passengers: 0,
+        };
+    }
+    if activity == 0 {
+        return Parts {
+            freight: 0,
+            passengers: all,
+        };
+    }
     let mut parts = [0u64; 2];
     // Accepted: the weights sum to more than 0, and they and A are within 10^18.
     apportion::divide(all, &[activity, mass], &mut parts);
@@ -37,7 +49,7 @@ pub fn divide_all(all: u64, activity: u64, mass: u64) -> Parts
     }
 }
 
-// Adds to the share of each element its part of an amount.
+// Adds to the share of each element its part of an amount. An amount of 0 adds nothing.
 fn deal(book: &[u64], members: &[usize], takers: Takers, amount: u64, shares: &mut [u64])
     requires { ⌜ sound (now book) ≡ true ⌝ }
     requires { ⌜ Listed (now book) (now members) ⌝ }
@@ -46,6 +58,9 @@ fn deal(book: &[u64], members: &[usize], takers: Takers, amount: u64, shares: &m
     requires { ⌜ ((k : ℕ) → at (now shares) k ≤ 3 * largest) ⌝ }
     ensures { λ _. ⌜ now (shares .exit) ≡ listBelow (length (now (members .entry))) (λ k. at (now (shares .entry)) k + at (divided amount (weightsAt (now (book .entry)) (now (members .entry)) takers)) k) ⌝ }
 {
+    if amount == 0 {
+        return;
+    }
     let count = members.len();
     let mut space = [0u64; 256];
     let mut parts = [0u64; 256];
