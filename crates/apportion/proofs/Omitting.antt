@@ -36,7 +36,7 @@ module _ (keep : ℕ → Bool) where
       (λ (l : k < j). rw (le-ltb j k (omega arith), le-ltb (among j) (among k) (omega (arith, among-order k j ek l)))))
       (order j k)
 
-  kept-length : (n : ℕ) (f : ℕ → ℕ) → length (keptBelow n keep f) ≡ among n
+  pub kept-length : (n : ℕ) (f : ℕ → ℕ) → length (keptBelow n keep f) ≡ among n
   kept-length zero f = refl
   kept-length (suc n) f =
       length-append (keptBelow n keep f) (cond (keep n) (f n ∷ []) []) ∙ go (keep n) (kept-length n f)
@@ -45,7 +45,7 @@ module _ (keep : ℕ → Bool) where
       go true rest = omega arith
       go false rest = omega arith
 
-  kept-at : (n : ℕ) (f : ℕ → ℕ) (k : ℕ) → k < n → keep k ≡ true → at (keptBelow n keep f) (among k) ≡ f k
+  pub kept-at : (n : ℕ) (f : ℕ → ℕ) (k : ℕ) → k < n → keep k ≡ true → at (keptBelow n keep f) (among k) ≡ f k
   kept-at zero f k h e = let z : ⊥ = omega arith in absurd z
   kept-at (suc n) f k h e =
       ⊎-elim
@@ -64,7 +64,7 @@ module _ (keep : ℕ → Bool) where
   kept-cong (suc n) f g same = rw (kept-cong n f g (λ k h. same k (omega arith)), same n (omega arith))
 
   -- a sum over the kept places alone, where the others add nothing
-  sum-kept : (n : ℕ) (f g : ℕ → ℕ) → ((k : ℕ) → k < n → keep k ≡ true → f (among k) ≡ g k) → ((k : ℕ) → k < n → keep k ≡ false → g k ≡ 0)
+  pub sum-kept : (n : ℕ) (f g : ℕ → ℕ) → ((k : ℕ) → k < n → keep k ≡ true → f (among k) ≡ g k) → ((k : ℕ) → k < n → keep k ≡ false → g k ≡ 0)
       → sumBelow (among n) f ≡ sumBelow n g
   sum-kept zero f g same none = refl
   sum-kept (suc n) f g same none =
@@ -75,7 +75,7 @@ module _ (keep : ℕ → Bool) where
       go false e rest = rw (e, add-zero) (omega (arith, none n (omega arith) e))
 
   -- the list over the kept places alone
-  list-kept : (n : ℕ) (f g : ℕ → ℕ) → ((k : ℕ) → k < n → keep k ≡ true → f (among k) ≡ g k) → listBelow (among n) f ≡ keptBelow n keep g
+  pub list-kept : (n : ℕ) (f g : ℕ → ℕ) → ((k : ℕ) → k < n → keep k ≡ true → f (among k) ≡ g k) → listBelow (among n) f ≡ keptBelow n keep g
   list-kept zero f g same = refl
   list-kept (suc n) f g same = go (keep n) refl (list-kept n f g (λ k h. same k (omega arith)))
     where

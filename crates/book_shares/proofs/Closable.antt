@@ -1,29 +1,33 @@
 -- What holds where a closing is accepted: none of its grounds does, and every pool can be dealt out. Assumes nothing.
-use mathlib.Core.Bool.{true, false, not, _||_, and-true, Bool}
+use mathlib.Core.Bool.{true, false, not, _||_, _&&_, and-true, Bool, cond}
 use mathlib.Core.List.{List, _∷_, []}
 use mathlib.Core.Logic.{⊎-elim, inl, inr, _⊎_}
-use mathlib.Core.Path.{_≡_, refl}
-use Prim.Native.Nat.{ℕ, _+_, _<_}
+use mathlib.Core.Path.{_≡_, refl, sym, _∙_}
+use Prim.Native.Nat.{ℕ, _+_, _<_, _≤_}
 use native.Mathlib.Nat.{eq-zero-or-pos}
 use native.Mathlib.Omega.{arith}
-use lib.Dec.{ltb}
-use borrow.Author.Tests.{not-false, eq-eqb, ltb-false, ne-eqb}
-use Rattle.apportion.specs.Dividing.{Divisible}
+use lib.Dec.{ltb, eqb}
+use lib.ListN.{take, drop}
+use borrow.Author.Tests.{not-false, eq-eqb, ltb-false}
+use Rattle.apportion.specs.Dividing.{Divisible, largest}
+use Rattle.apportion.specs.Grounds.{firstOf}
 use Rattle.apportion.specs.Places.{at}
 use Rattle.book_words.specs.Book.{categories, isClosed, unnumbered}
 use Rattle.book_words.specs.Measures.{between}
 use Rattle.book_words.specs.Soundness.{sound}
-use Rattle.book_words.specs.Totals.{Side, operation, provision}
+use Rattle.book_words.specs.Totals.{Side, operation, provision, mostActivity}
 use Rattle.book_shares.specs.declared.weights.Takers.{Takers}
 use Rattle.book_shares.specs.declared.weights.Takers.the-variants.{Group, Freight, Passengers}
-use Rattle.book_shares.specs.Closing.{poolWithoutElements, closeRefusal, nothingToDivideBy}
+use Rattle.book_shares.specs.Closing.{poolWithoutElements, closeGrounds, closeRefusal, nothingToDivideBy}
 use Rattle.book_shares.specs.Dealing.{ToDivideBy, Dealable}
+use Rattle.book_shares.specs.Listing.{members, activityAt, massAt}
 use Rattle.book_shares.specs.Shares.{weights, freightPart, dividedAll, passengerPart}
 use Rattle.book_shares.specs.Sums.{activityAmong, passengersByMass, pool}
-use Rattle.apportion.proofs.Grounds.{first-none, or-none}
+use Rattle.apportion.proofs.Grounds.{first-none, or-none, passed, first-prefix}
 use Rattle.apportion.proofs.Laws.{share-of-zero}
 use Rattle.book_words.proofs.Ranges.{above-zero}
-use Rattle.book_shares.proofs.Bounds.{mass-least, pool-limited}
+use Rattle.book_shares.proofs.Bounds.{mass-least, pool-limited, served-limited}
+use Rattle.book_shares.proofs.Listed.{activity-members, mass-members, divisible-members}
 use Rattle.book_shares.proofs.Shared.{weights-sum, sum-two, Handed, parts-add}
 
 module _ (ws : List ℕ) (category : ℕ) where
@@ -114,40 +118,58 @@ module _ (ws : List ℕ) (category : ℕ) where
         }
 
     -- the four amounts that are dealt out
-    pub freight-dealable : Closable → Dealable ws category Freight (freightPart ws category side)
+    dealable : (takers : Takers) (amount : ℕ) → Divisible amount (weights ws category takers) → amount ≤ largest → Dealable ws (members ws category) takers amount
+    dealable takers amount divisible within = record { divisible = divisible-members ws category takers amount divisible; within = within }
+
+    pub freight-dealable : Closable → Dealable ws (members ws category) Freight (freightPart ws category side)
     freight-dealable k =
-        record {
-          divisible = handed k .freight-divisible;
-          within = omega (arith, parts-add ws category side (k .served), pool-limited ws (k .fine) category 0 side);
-        }
+        dealable Freight (freightPart ws category side) (handed k .freight-divisible)
+        (omega (arith, parts-add ws category side (k .served), pool-limited ws (k .fine) category 0 side))
 
-    pub passengers-dealable : Closable → Dealable ws category Passengers (passengerPart ws category side)
+    pub passengers-dealable : Closable → Dealable ws (members ws category) Passengers (passengerPart ws category side)
     passengers-dealable k =
-        record {
-          divisible = handed k .passengers-divisible;
-          within = omega (arith, parts-add ws category side (k .served), pool-limited ws (k .fine) category 0 side);
-        }
+        dealable Passengers (passengerPart ws category side) (handed k .passengers-divisible)
+        (omega (arith, parts-add ws category side (k .served), pool-limited ws (k .fine) category 0 side))
 
-    group-dealable : sound ws ≡ true → (group : ℕ) → poolWithoutElements ws category group ≡ false → Dealable ws category (Group group) (pool ws category group side)
-    group-dealable fine group h =
-        record {
-          divisible = group-divisible group h;
-          within = pool-limited ws fine category group side;
-        }
+    pub chilled-dealable : Closable → Dealable ws (members ws category) (Group 1) (pool ws category 1 side)
+    chilled-dealable k = dealable (Group 1) (pool ws category 1 side) (handed k .chilled-divisible) (pool-limited ws (k .fine) category 1 side)
 
-    pub chilled-dealable : Closable → Dealable ws category (Group 1) (pool ws category 1 side)
-    chilled-dealable k = group-dealable (k .fine) 1 (k .chilled-served)
+    pub frozen-dealable : Closable → Dealable ws (members ws category) (Group 2) (pool ws category 2 side)
+    frozen-dealable k = dealable (Group 2) (pool ws category 2 side) (handed k .frozen-divisible) (pool-limited ws (k .fine) category 2 side)
 
-    pub frozen-dealable : Closable → Dealable ws category (Group 2) (pool ws category 2 side)
-    frozen-dealable k = group-dealable (k .fine) 2 (k .frozen-served)
+  -- the condition of ground 9
+  abbrev pub withoutElements : Bool
+  withoutElements = nothingToDivideBy ws category || poolWithoutElements ws category 1 || poolWithoutElements ws category 2
 
--- ground 9 of a closing, as the code tests it
-pub nine : (ws : List ℕ) (category f p : ℕ) (chilled frozen : Bool) → f ≡ activityAmong ws category Freight → p ≡ passengersByMass ws category
-    → chilled ≡ poolWithoutElements ws category 1 → frozen ≡ poolWithoutElements ws category 2 → (f + p ≡ 0 → ⊥)
-    → nothingToDivideBy ws category || poolWithoutElements ws category 1 || poolWithoutElements ws category 2 ≡ chilled || frozen
-nine ws category f p chilled frozen is-f is-p is-chilled is-frozen some =
-    rw (← is-f, ← is-p, ← is-chilled, ← is-frozen, ne-eqb (f + p) 0 some)
+  -- where none of the grounds before 9 holds, 9 decides
+  pub nine-left : firstOf (take 3 (closeGrounds ws category)) ≡ 0 → (sound ws ≡ true) × (closeRefusal ws category ≡ cond withoutElements 9 0)
+  unfolding closeRefusal
+  nine-left e =
+      let one = first-none 0 (not (sound ws)) _ e in
+      let two = first-none 1 (unnumbered (categories ws) category) _ (one .1) in
+      let four = first-none 3 (isClosed ws category) _ (two .1) in
+      (not-false (sound ws) (one .0), passed 1 (one .0) ∙ passed 2 (two .0) ∙ passed 4 (four .0))
 
-pub nine-nothing : (ws : List ℕ) (category f p : ℕ) → f ≡ activityAmong ws category Freight → p ≡ passengersByMass ws category → f + p ≡ 0
-    → nothingToDivideBy ws category || poolWithoutElements ws category 1 || poolWithoutElements ws category 2 ≡ true
-nine-nothing ws category f p is-f is-p none = rw (← is-f, ← is-p, eq-eqb (f + p) 0 none)
+  -- where one of them does, it gives the number
+  pub earlier-refused : (n : ℕ) → n ≡ firstOf (take 3 (closeGrounds ws category)) → (n ≡ 0 → ⊥) → n ≡ closeRefusal ws category
+  unfolding closeRefusal
+  earlier-refused n e ne =
+      e ∙ sym (first-prefix (take 3 (closeGrounds ws category)) (drop 3 (closeGrounds ws category)) (λ z. ne (e ∙ z)))
+
+  -- F and P, as the code adds them up
+  module _ (places : List ℕ) (are : places ≡ members ws category) (f p : ℕ) (is-f : f ≡ activityAt ws places Freight) (is-p : p ≡ massAt ws places) where
+    pub nothing-tested : nothingToDivideBy ws category ≡ eqb (f + p) 0
+    nothing-tested = rw (is-f, is-p, are, activity-members ws category Freight, mass-members ws category)
+
+    pub sums-limited : sound ws ≡ true → f + p ≤ mostActivity
+    sums-limited fine =
+        rw (is-f, is-p, are, activity-members ws category Freight, mass-members ws category) (served-limited ws fine category)
+
+    pub sums-served : ToDivideBy ws category → 0 < f + p
+    sums-served served = rw (is-f, is-p, are, activity-members ws category Freight, mass-members ws category) served
+
+  -- a group's part of ground 9, as the code tests it
+  pub pool-tested : (places : List ℕ) → places ≡ members ws category → (group a b : ℕ) (r : Bool) → a ≡ pool ws category group operation → b ≡ pool ws category group provision
+      → r ≡ (ltb 0 a || ltb 0 b) && eqb (activityAt ws places (Group group)) 0
+      → r ≡ poolWithoutElements ws category group
+  pool-tested places are group a b r is-a is-b is = is ∙ rw (is-a, is-b, are, activity-members ws category (Group group))

@@ -5,7 +5,6 @@ use mathlib.Core.Logic.{⊎-elim}
 use mathlib.Core.Path.{_≡_, refl, _∙_, ap, sym}
 use Prim.Native.Nat.{ℕ, zero, suc, _+_, _*_, _-_, _<_, _≤_}
 use native.Mathlib.Nat.{add-zero, eq-or-lt-of-le}
-use native.Mathlib.Numerals.{add-one}
 use native.Mathlib.Omega.{arith}
 use lib.Dec.{eqb}
 use lib.ListN.{length, length-set}
@@ -17,7 +16,7 @@ use Rattle.book_words.specs.Parts.{CountsWithin}
 use Rattle.book_words.specs.Totals.{Side, operation, provision}
 use Rattle.book_words.specs.declared.records.Category.{Category}
 use Rattle.book_words.specs.declared.records.Element.{Element}
-use Rattle.book_shares.specs.Closing.{handOut, closeWith, giveShares}
+use Rattle.book_shares.specs.Closing.{handOut, closeWith}
 use Rattle.book_words.proofs.Views.{category-same, entry-same, element-same}
 use Rattle.book_words.proofs.Writes.{Avoids, puts-length, puts-other, puts-here}
 
@@ -89,10 +88,6 @@ module _ (ws : List ℕ) (category : ℕ) where
         (here .0, (here .1, refl)))
         ∙ put-word n k (λ q h. none q (omega arith))
 
-    -- one place more, as the code counts
-    pub put-next : (n : ℕ) → giveShares (handOut n ws category share) category n (share operation n) (share provision n) ≡ handOut (n + 1) ws category share
-    put-next n = rw add-one
-
     -- the share words hold the shares
     shares-here : (n q : ℕ) → q < n → elementAt ws q .category ≡ category → 356 + 8 * q + 7 < length ws
         → (at (handOut n ws category share) (356 + 8 * q + 6) ≡ share operation q) × (at (handOut n ws category share) (356 + 8 * q + 7) ≡ share provision q)
@@ -114,16 +109,6 @@ module _ (ws : List ℕ) (category : ℕ) where
           chosen-other test before (a ∷ b ∷ []) (356 + 8 * q + 7) (λ t. omega arith) ∙ earlier .1,
         ))
         (eq-or-lt-of-le h)
-
-  -- only the shares below n are looked at
-  pub put-cong : (n : ℕ) (f g : Side → ℕ → ℕ) → ((s : Side) (k : ℕ) → k < n → f s k ≡ g s k) → handOut n ws category f ≡ handOut n ws category g
-  put-cong zero f g same = refl
-  put-cong (suc n) f g same =
-      rw (
-        put-cong n f g (λ s k h. same s k (omega arith)),
-        same operation n (omega arith),
-        same provision n (omega arith),
-      )
 
   -- the words of an element of another category are no share words of this one
   others-apart : (n p f : ℕ) → f < 8 → (elementAt ws p .category ≡ category → ⊥) → NoShare n (356 + 8 * p + f)

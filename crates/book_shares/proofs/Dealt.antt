@@ -1,34 +1,33 @@
 -- Amounts that are divided and dealt out, as the code does it. Assumes nothing.
-use mathlib.Core.Bool.{_&&_, false, true}
+use mathlib.Core.Bool.{_&&_, true, false}
 use mathlib.Core.List.{List, _∷_, []}
-use mathlib.Core.Logic.{⊎-elim}
-use mathlib.Core.Path.{_≡_, refl, ap, _∙_}
+use mathlib.Core.Logic.{⊎-elim, inl, inr}
+use mathlib.Core.Path.{_≡_, refl, ap, _∙_, sym}
 use Prim.Native.Nat.{ℕ, _≤_, _<_, _+_, zero, suc}
 use native.Mathlib.Omega.{arith}
 use lib.Dec.{ltb, eqb}
 use lib.ListN.{length, List·getD-eq-default, take, replicate}
+use lib.Seq.{ext-getD}
 use borrow.Author.Tests.{eq-eqb, le-ltb, ne-eqb}
 use Rattle.apportion.specs.Dividing.{divided, largest, Divisible, sharesAfter, refusal}
 use Rattle.apportion.specs.Places.{at, sumOf, listBelow}
-use Rattle.book_words.specs.Book.{elements}
 use Rattle.book_words.specs.Soundness.{sound}
-use Rattle.book_words.specs.Totals.{Side, operation, provision}
+use Rattle.book_words.specs.Totals.{Side}
+use Rattle.book_shares.specs.declared.pools.Pools.{Pools}
 use Rattle.book_shares.specs.declared.sharing.Parts.{Parts}
 use Rattle.book_shares.specs.declared.weights.Takers.{Takers}
 use Rattle.book_shares.specs.declared.weights.Takers.the-variants.{Group, Freight, Passengers}
-use Rattle.book_shares.specs.Closing.{handOut}
-use Rattle.book_shares.specs.Dealing.{Dealable, ToDivideBy, listsBySide}
+use Rattle.book_shares.specs.Dealing.{Dealable, partsBy, poolsBy}
+use Rattle.book_shares.specs.Listing.{members, Listed, atPlaces, weightsAt, activityAt, massAt}
 use Rattle.book_shares.specs.Shares.{weights, partAt, dividedAll, freightPart, passengerPart, closingShare}
-use Rattle.book_shares.specs.Sums.{activityAmong, pool, passengersByMass}
+use Rattle.book_shares.specs.Sums.{pool}
 use Rattle.apportion.proofs.Grounds.{accepted-new}
-use Rattle.apportion.proofs.Laws.{shares-sum}
+use Rattle.apportion.proofs.Laws.{shares-length, shares-sum, share-of-zero}
 use Rattle.apportion.proofs.Lists.{list-at, list-past, list-cong, list-length}
 use Rattle.apportion.proofs.Sums.{sum-some, below-or-not}
 use Rattle.book_words.proofs.Booleans.{and-false}
-use Rattle.book_words.proofs.Facts.{sound-counted}
-use Rattle.book_shares.proofs.Bounds.{pool-limited, served-limited, activity-limited}
-use Rattle.book_shares.proofs.Closed.{put-cong}
-use Rattle.book_shares.proofs.Shared.{weights-length, weights-sum, sum-two}
+use Rattle.book_shares.proofs.Listed.{activity-members, mass-members, parts-members, weights-at-length, weights-at-sum, listed-few, listed-activity}
+use Rattle.book_shares.proofs.Shared.{Handed, sum-two}
 
 -- a number of a list is at most its sum
 pub at-most-sum : (xs : List ℕ) (k : ℕ) → at xs k ≤ sumOf xs
@@ -39,41 +38,51 @@ at-most-sum xs k =
     (λ (past : length xs ≤ k). omega (arith, List·getD-eq-default xs 0 past))
     (below-or-not k (length xs))
 
-module _ (ws : List ℕ) (category : ℕ) (takers : Takers) (amount : ℕ) (d : Dealable ws category takers amount) where
+-- an accepted division writes its shares
+pub division-done : (pool : ℕ) (weights old : List ℕ) → refusal pool (length weights) (length old) (sumOf weights) ≡ 0 → sharesAfter pool weights old ≡ divided pool weights
+unfolding sharesAfter
+division-done pool weights old e = accepted-new (refusal pool (length weights) (length old) (sumOf weights)) (divided pool weights) old e
+
+module _ (ws places : List ℕ) (takers : Takers) (amount : ℕ) (d : Dealable ws places takers amount) where
   -- no part is more than the amount
-  pub dealt-within : (k : ℕ) → at (divided amount (weights ws category takers)) k ≤ largest
+  pub dealt-within : (k : ℕ) → at (divided amount (weightsAt ws places takers)) k ≤ largest
   dealt-within k =
       omega (
         arith,
-        at-most-sum (divided amount (weights ws category takers)) k,
-        shares-sum amount (weights ws category takers) (d .divisible),
+        at-most-sum (divided amount (weightsAt ws places takers)) k,
+        shares-sum amount (weightsAt ws places takers) (d .divisible),
         d .within,
       )
 
-  pub part-within : (k : ℕ) → partAt ws category takers amount k ≤ largest
-  unfolding partAt
-  part-within k = dealt-within k
-
   -- such a division is accepted
-  pub deal-accepted : sound ws ≡ true → refusal amount (length (weights ws category takers)) (elements ws) (sumOf (weights ws category takers)) ≡ 0
+  deal-accepted : sound ws ≡ true → Listed ws places → refusal amount (length (weightsAt ws places takers)) (length places) (sumOf (weightsAt ws places takers)) ≡ 0
   unfolding refusal
-  deal-accepted fine =
-      rw (weights-length ws category takers, weights-sum ws category takers)
+  deal-accepted fine l =
+      rw (weights-at-length ws places takers, weights-at-sum ws places takers)
       (rw (
-        eq-eqb (elements ws) (elements ws) refl,
-        le-ltb 256 (elements ws) (sound-counted ws fine .elements-most),
+        eq-eqb (length places) (length places) refl,
+        le-ltb 256 (length places) (listed-few ws places fine l),
         some (d .divisible),
         le-ltb largest amount (d .within),
-        le-ltb largest (activityAmong ws category takers) (activity-limited ws fine category takers),
+        le-ltb largest (activityAt ws places takers) (listed-activity ws places fine l takers),
       ))
     where
-      some : Divisible amount (weights ws category takers) → ltb 0 amount && eqb (activityAmong ws category takers) 0 ≡ false
+      some : Divisible amount (weightsAt ws places takers) → ltb 0 amount && eqb (activityAt ws places takers) 0 ≡ false
       some =
           ⊎-elim
-          (λ (l : 0 < sumOf (weights ws category takers)).
-          and-false (ltb 0 amount) (eqb (activityAmong ws category takers) 0)
-          (ne-eqb (activityAmong ws category takers) 0 (λ z. omega (arith, weights-sum ws category takers))))
+          (λ (more : 0 < sumOf (weightsAt ws places takers)).
+          and-false (ltb 0 amount) (eqb (activityAt ws places takers) 0)
+          (ne-eqb (activityAt ws places takers) 0 (λ z. omega (arith, weights-at-sum ws places takers))))
           (λ (none : amount ≡ 0). rw (le-ltb 0 amount (omega arith)))
+
+  -- and done as the code does it
+  pub amount-divided : sound ws ≡ true → Listed ws places → (given old new : List ℕ) → given ≡ weightsAt ws places takers → length old ≡ length places
+      → new ≡ sharesAfter amount given old
+      → new ≡ divided amount (weightsAt ws places takers)
+  amount-divided fine l given old new are long is =
+      is
+      ∙ ap (λ (x : List ℕ). sharesAfter amount x old) are
+      ∙ division-done amount (weightsAt ws places takers) old (rw long (deal-accepted fine l))
 
 -- shares to which parts are added
 module _ (n : ℕ) where
@@ -107,52 +116,48 @@ module _ (n : ℕ) where
         ap (λ (l : List ℕ). at l k) three ∙ list-at n (λ j. at d j + r j) k h,
       ))
 
--- an accepted division writes its shares
-pub division-done : (pool : ℕ) (weights old : List ℕ) → refusal pool (length weights) (length old) (sumOf weights) ≡ 0 → sharesAfter pool weights old ≡ divided pool weights
-unfolding sharesAfter
-division-done pool weights old e = accepted-new (refusal pool (length weights) (length old) (sumOf weights)) (divided pool weights) old e
-
 -- A divided by F and P, as the code does it
-pub all-divided : (ws : List ℕ) (category : ℕ) (side : Side) → sound ws ≡ true → ToDivideBy ws category → (a f p : ℕ) (old new : List ℕ) → length old ≡ 2
-    → a ≡ pool ws category 0 side → f ≡ activityAmong ws category Freight → p ≡ passengersByMass ws category
-    → new ≡ sharesAfter a (f ∷ p ∷ []) old
-    → new ≡ dividedAll ws category side
-unfolding dividedAll refusal
-all-divided ws category side fine served a f p old new two is-a is-f is-p is =
+pub all-divided : (a f p : ℕ) (old new : List ℕ) → length old ≡ 2 → a ≤ largest → 0 < f + p → f + p ≤ largest → new ≡ sharesAfter a (f ∷ p ∷ []) old
+    → new ≡ divided a (f ∷ p ∷ [])
+unfolding refusal
+all-divided a f p old new two within served few is =
     let total = sum-two (f ∷ p ∷ []) refl in
-    let some : eqb (sumOf (f ∷ p ∷ [])) 0 ≡ false = ne-eqb (sumOf (f ∷ p ∷ [])) 0 (λ z. omega (arith, served, total, is-f, is-p)) in
+    let some : eqb (sumOf (f ∷ p ∷ [])) 0 ≡ false = ne-eqb (sumOf (f ∷ p ∷ [])) 0 (λ z. omega (arith, total)) in
     is
     ∙ division-done a (f ∷ p ∷ []) old
     (rw (
       two,
       some,
-      le-ltb largest a (omega (arith, is-a, pool-limited ws fine category 0 side)),
-      le-ltb largest (sumOf (f ∷ p ∷ [])) (omega (arith, total, is-f, is-p, served-limited ws fine category)),
+      le-ltb largest a within,
+      le-ltb largest (sumOf (f ∷ p ∷ [])) (omega (arith, total)),
       and-false (ltb 0 a) false refl,
     ))
-    ∙ rw (is-a, is-f, is-p)
 
--- an amount that is divided by the weights of its elements, as the code does it
-pub amount-divided : (ws : List ℕ) (category : ℕ) (takers : Takers) (amount : ℕ) → sound ws ≡ true → Dealable ws category takers amount → (given old new : List ℕ)
-    → given ≡ weights ws category takers → length old ≡ elements ws → new ≡ sharesAfter amount given old
-    → new ≡ divided amount (weights ws category takers)
-amount-divided ws category takers amount fine d given old new are long is =
-    is
-    ∙ ap (λ (l : List ℕ). sharesAfter amount l old) are
-    ∙ division-done amount (weights ws category takers) old (rw long (deal-accepted ws category takers amount d fine))
+-- where one of the weights is 0, the other gets all of A
+module _ (a f p : ℕ) (served : 0 < f + p) where
+  parts-whole : (at (divided a (f ∷ p ∷ [])) 0 + at (divided a (f ∷ p ∷ [])) 1 ≡ a) × (0 < sumOf (f ∷ p ∷ []))
+  parts-whole =
+      let some : 0 < sumOf (f ∷ p ∷ []) = rw (sum-two (f ∷ p ∷ []) refl) served in
+      (sym (sum-two (divided a (f ∷ p ∷ [])) (shares-length a (f ∷ p ∷ []))) ∙ shares-sum a (f ∷ p ∷ []) (inl some), some)
 
--- the shares of both sides, as the code writes them
-pub sides-written : (ws : List ℕ) (category n : ℕ) (share : Side → ℕ → ℕ) (a b new : List ℕ) → a ≡ listBelow n (share operation) → b ≡ listBelow n (share provision)
-    → new ≡ handOut (length a) ws category (listsBySide a b)
-    → new ≡ handOut n ws category share
-sides-written ws category n share a b new is-a is-b is =
-    is
-    ∙ ap (λ (m : ℕ). handOut m ws category (listsBySide a b)) (ap length is-a ∙ list-length n (share operation))
-    ∙ put-cong ws category n (listsBySide a b) share same
-  where
-    same : (s : Side) (k : ℕ) → k < n → listsBySide a b s k ≡ share s k
-    same operation k h = ap (λ (l : List ℕ). at l k) is-a ∙ list-at n (share operation) k h
-    same provision k h = ap (λ (l : List ℕ). at l k) is-b ∙ list-at n (share provision) k h
+  pub all-freight : p ≡ 0 → record { freight = a; passengers = 0 } ≡ partsBy a f p
+  all-freight none =
+      let nothing = share-of-zero a (f ∷ p ∷ []) (inl (parts-whole .1)) 1 none in
+      let all : at (divided a (f ∷ p ∷ [])) 0 ≡ a = omega (arith, parts-whole .0) in
+      rw (all, nothing)
+
+  pub all-passengers : f ≡ 0 → record { freight = 0; passengers = a } ≡ partsBy a f p
+  all-passengers none =
+      let nothing = share-of-zero a (f ∷ p ∷ []) (inl (parts-whole .1)) 0 none in
+      let all : at (divided a (f ∷ p ∷ [])) 1 ≡ a = omega (arith, parts-whole .0) in
+      rw (all, nothing)
+
+-- an amount of 0 adds nothing
+pub nothing-dealt : (amount n : ℕ) (weights shares : List ℕ) → amount ≡ 0 → length shares ≡ n → shares ≡ listBelow n (λ k. at shares k + at (divided amount weights) k)
+nothing-dealt amount n weights shares none long =
+    let f : ℕ → ℕ = λ k. at shares k + at (divided amount weights) k in
+    ext-getD 0 shares (listBelow n f) (long ∙ sym (list-length n f))
+    (λ k h. omega (arith, list-at n f k (omega arith), at-most-sum (divided amount weights) k, shares-sum amount weights (inr none)))
 
 -- part of an array that is 0
 pub zeros-at : (n m k : ℕ) → at (take n (replicate m 0)) k ≡ 0
@@ -161,11 +166,41 @@ zeros-at (suc n) zero k = refl
 zeros-at (suc n) (suc m) zero = refl
 zeros-at (suc n) (suc m) (suc k) = zeros-at n m k
 
--- the parts that were dealt out are the shares
-pub shares-dealt : (ws : List ℕ) (category n : ℕ) (side : Side) (p : Parts) (chilled frozen : ℕ)
-    → p ≡ record { freight = freightPart ws category side; passengers = passengerPart ws category side }
-    → chilled ≡ pool ws category 1 side → frozen ≡ pool ws category 2 side
-    → listBelow n (λ k. partAt ws category Freight (p .freight) k + partAt ws category Passengers (p .passengers) k + partAt ws category (Group 1) chilled k + partAt ws category (Group 2) frozen k)
-    ≡ listBelow n (closingShare ws category side)
-unfolding closingShare
-shares-dealt ws category n side p chilled frozen e f g = rw (e, f, g)
+-- the two parts of A, by the sums over the category's elements
+module _ (ws : List ℕ) (category : ℕ) (side : Side) (places : List ℕ) (are : places ≡ members ws category) where
+  pub parts-found : (all activity mass : ℕ) (p : Parts) → all ≡ pool ws category 0 side → activity ≡ activityAt ws places Freight → mass ≡ massAt ws places
+      → p ≡ partsBy all activity mass
+      → p ≡ record { freight = freightPart ws category side; passengers = passengerPart ws category side }
+  unfolding dividedAll
+  parts-found all activity mass p is-all is-activity is-mass is =
+      is ∙ rw (is-all, is-activity, is-mass, are, activity-members ws category Freight, mass-members ws category)
+
+  -- what an element gets of an amount
+  part-found : (takers : Takers) (amount : ℕ) → Divisible amount (weights ws category takers) → (k : ℕ) → k < length places
+      → at (divided amount (weightsAt ws places takers)) k ≡ partAt ws category takers amount (at places k)
+  part-found takers amount divisible k h =
+      rw are
+      (ap (λ (l : List ℕ). at l k) (parts-members ws category takers amount divisible)
+      ∙ list-at (length (members ws category)) (λ i. partAt ws category takers amount (at (members ws category) i)) k (rw are at h))
+
+  -- the parts that were dealt out are the shares
+  pub shares-dealt : Handed ws category side → (p : Parts) (q : Pools)
+      → p ≡ record { freight = freightPart ws category side; passengers = passengerPart ws category side } → q ≡ poolsBy ws category side
+      → listBelow (length places)
+      (λ k.
+      at (divided (p .freight) (weightsAt ws places Freight)) k
+      + at (divided (p .passengers) (weightsAt ws places Passengers)) k
+      + at (divided (q .chilled) (weightsAt ws places (Group 1))) k
+      + at (divided (q .frozen) (weightsAt ws places (Group 2))) k)
+      ≡ atPlaces places (closingShare ws category side)
+  unfolding closingShare
+  shares-dealt h p q is-p is-q =
+      rw (is-p, is-q)
+      (list-cong (length places) _ _
+      (λ k i.
+      rw (
+        part-found Freight (freightPart ws category side) (h .freight-divisible) k i,
+        part-found Passengers (passengerPart ws category side) (h .passengers-divisible) k i,
+        part-found (Group 1) (pool ws category 1 side) (h .chilled-divisible) k i,
+        part-found (Group 2) (pool ws category 2 side) (h .frozen-divisible) k i,
+      )))

@@ -3,11 +3,13 @@ pub mod Members
 pub mod Bounds
 pub mod Pooled
 pub mod Quotients
-pub mod Results
 pub mod Nearness
 pub mod Shared
+pub mod Listed
+pub mod Results
 pub mod Closed
 pub mod Closable
 pub mod Dealt
+pub mod Handing
 pub mod Keeps
 pub mod Laws

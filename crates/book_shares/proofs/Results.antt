@@ -1,5 +1,5 @@
 -- What holds where an intensity is wanted, and its results by their quotients. Assumes nothing.
-use mathlib.Core.Bool.{Bool, _||_, not, _&&_, false, true, cond}
+use mathlib.Core.Bool.{Bool, _||_, not, _&&_, false, true, cond, or-false}
 use mathlib.Core.List.{List}
 use mathlib.Core.Logic.{⊎-elim}
 use mathlib.Core.Path.{_≡_, _∙_, refl, ap, sym}
@@ -8,16 +8,18 @@ use native.Mathlib.Nat.{add-zero}
 use native.Mathlib.Omega.{arith}
 use lib.Dec.{eqb, ltb}
 use lib.ListN.{take, drop}
-use borrow.Author.Tests.{eq-eqb, ne-eqb, not-false, ltb-false}
+use borrow.Author.Tests.{eq-eqb, ne-eqb, not-false, ltb-false, leb-true}
 use Rattle.apportion.specs.Grounds.{accepted, firstOf}
 use Rattle.book_words.specs.Book.{categoryOf, categories, unnumbered, isClosed}
 use Rattle.book_words.specs.Measures.{nearest, between, isHub}
 use Rattle.book_words.specs.Soundness.{sound}
 use Rattle.book_words.specs.Totals.{Side, capped, operation, provision}
 use Rattle.book_shares.specs.declared.intensities.Intensity.{Intensity}
+use Rattle.book_shares.specs.declared.pools.Pools.{Pools}
 use Rattle.book_shares.specs.declared.weights.Takers.the-variants.{Group, Passengers, Freight}
-use Rattle.book_shares.specs.Dealing.{ToDivideBy, scaleTens}
+use Rattle.book_shares.specs.Dealing.{ToDivideBy, scaleTens, Allowed, lacksActivityAt, poolsBy, groupPool}
 use Rattle.book_shares.specs.Intensities.{lacksActivity, intensityOf, scale, mostResult, intensityRefusal, isIntensityCode, passesIntensity, intensityReply, intensityGrounds}
+use Rattle.book_shares.specs.Listing.{members}
 use Rattle.book_shares.specs.Shares.{passengerPart, freightPart}
 use Rattle.book_shares.specs.Sums.{activityAmong, pool}
 use Rattle.apportion.proofs.Grounds.{or-none, first-none, passed, first-prefix}
@@ -25,6 +27,7 @@ use Rattle.book_words.proofs.Capping.{capped-both, capped-over}
 use Rattle.book_words.proofs.Kept.{same-or-not}
 use Rattle.book_words.proofs.Ranges.{above-zero}
 use Rattle.book_shares.proofs.Bounds.{mass-tenth}
+use Rattle.book_shares.proofs.Listed.{activity-members}
 
 module _ (ws : List ℕ) (category code : ℕ) where
   -- where ground 9 does not hold, there is an activity to divide by
@@ -49,6 +52,21 @@ module _ (ws : List ℕ) (category code : ℕ) where
       (λ (is : code ≡ 100). omega (arith, some-passengers h is, mass-tenth ws fine category))
       (λ (other : code ≡ 100 → ⊥). omega (arith, some-freight h other))
       (same-or-not code 100)
+
+  -- the pool of a code that is neither ambient nor passengers
+  pub group-found : (side : Side) (q : Pools) → q ≡ poolsBy ws category side → isIntensityCode code ≡ true → (code ≡ 100 → ⊥) → (code ≡ 0 → ⊥)
+      → groupPool q code ≡ pool ws category code side
+  group-found side q is known other grouped =
+      rw is
+      (⊎-elim
+      (λ (one : code ≡ 1). rw (eq-eqb code 1 one, one))
+      (λ (two : code ≡ 1 → ⊥). rw (ne-eqb code 1 two) (ap (λ (g : ℕ). pool ws category g side) (sym (last two))))
+      (same-or-not code 1))
+    where
+      last : (code ≡ 1 → ⊥) → code ≡ 2
+      last two =
+          let small = leb-true code 2 (rw (ne-eqb code 100 other, or-false) at known) in
+          omega arith
 
   -- the results, as the code makes them
   module _ (side : Side) where
@@ -81,35 +99,42 @@ module _ (ws : List ℕ) (category code : ℕ) where
           rw (g, j) (capped-both (nearest (amount * 10 ^ tens) total) (nearest (more * 10 ^ tens) share)) in
           rw (← e, ← f, ← h, ← i, ← unit, ne-eqb code 100 other, ne-eqb code 0 grouped) (k ∙ sum)
 
-  -- where none of the grounds before 10 holds
-  pub record Allowed : Type 0 where
+  -- none of the grounds before 9 holds
+  pub record Early : Type 0 where
     pub fine : sound ws ≡ true
     pub numbered : between 1 (categories ws) category ≡ true
-    pub some-activity : lacksActivity ws category code ≡ false
-    pub only-ten : intensityRefusal ws category code ≡ cond (passesIntensity ws category code) 10 0
+    pub known : isIntensityCode code ≡ true
+    pub late : intensityRefusal ws category code ≡ firstOf (drop 4 (intensityGrounds ws category code))
 
-  pub intensity-allowed : firstOf (take 5 (intensityGrounds ws category code)) ≡ 0 → Allowed
+  pub early : firstOf (take 4 (intensityGrounds ws category code)) ≡ 0 → Early
   unfolding intensityRefusal
-  intensity-allowed e =
+  early e =
       let one = first-none 0 (not (sound ws)) _ e in
       let two = first-none 1 (unnumbered (categories ws) category) _ (one .1) in
       let three = first-none 2 (not (isIntensityCode code)) _ (two .1) in
       let five = first-none 4 (not (isClosed ws category)) _ (three .1) in
-      let nine = first-none 8 (lacksActivity ws category code) _ (five .1) in
       record {
         fine = not-false (sound ws) (one .0);
         numbered = not-false (between 1 (categories ws) category) (two .0);
-        some-activity = nine .0;
-        only-ten = passed 1 (one .0) ∙ passed 2 (two .0) ∙ passed 3 (three .0) ∙ passed 5 (five .0) ∙ passed 9 (nine .0);
+        known = not-false (isIntensityCode code) (three .0);
+        late = passed 1 (one .0) ∙ passed 2 (two .0) ∙ passed 3 (three .0) ∙ passed 5 (five .0);
       }
 
   -- where one of them does, it gives the number
-  pub earlier-refused : (n : ℕ) → n ≡ firstOf (take 5 (intensityGrounds ws category code)) → (n ≡ 0 → ⊥) → n ≡ intensityRefusal ws category code
+  pub earlier-refused : (n : ℕ) → n ≡ firstOf (take 4 (intensityGrounds ws category code)) → (n ≡ 0 → ⊥) → n ≡ intensityRefusal ws category code
   unfolding intensityRefusal
   earlier-refused n e ne =
-      let early = take 5 (intensityGrounds ws category code) in
-      let late = drop 5 (intensityGrounds ws category code) in
-      e ∙ sym (first-prefix early late (λ z. ne (e ∙ z)))
+      let before = take 4 (intensityGrounds ws category code) in
+      let after = drop 4 (intensityGrounds ws category code) in
+      e ∙ sym (first-prefix before after (λ z. ne (e ∙ z)))
+
+  -- ground 9, by the sums over the category's elements
+  pub nine : (places : List ℕ) → places ≡ members ws category → lacksActivityAt ws places code ≡ lacksActivity ws category code
+  nine places are =
+      rw (are, activity-members ws category Passengers, activity-members ws category Freight, activity-members ws category (Group code))
+
+  pub allowed : Early → lacksActivity ws category code ≡ false → Allowed ws category code
+  allowed k some = record { fine = k .fine; numbered = k .numbered; known = k .known; some-activity = some }
 
   -- ground 10, from the capped results
   pub ten : (a b : ℕ) → a ≡ capped (intensityOf ws category code operation) → b ≡ capped (intensityOf ws category code provision)

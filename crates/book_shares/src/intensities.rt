@@ -1,16 +1,17 @@
 // Intensity: the emissions of a closed category by its activity.
-ghost use mathlib.Core.Bool.{true, false};
+ghost use mathlib.Core.Bool.{true};
 ghost use mathlib.Core.Path.{_≡_};
 ghost use Prim.Native.Nat.{_<_, _≤_, _*_, _^_};
 ghost use lib.ListN.{take};
 ghost use Rattle.apportion.specs.Dividing.{largest};
 ghost use Rattle.apportion.specs.Grounds.{firstOf};
-ghost use Rattle.book_words.specs.Book.{categories};
-ghost use Rattle.book_words.specs.Measures.{between, nearest};
+ghost use Rattle.book_words.specs.Measures.{nearest};
 ghost use Rattle.book_words.specs.Soundness.{sound};
 ghost use Rattle.book_words.specs.Totals.{capped};
-ghost use Rattle.book_shares.specs.Dealing.{sideAt, scaleTens};
-ghost use Rattle.book_shares.specs.Intensities.{intensityReply, intensityGrounds, lacksActivity, intensityOf};
+ghost use Rattle.book_shares.specs.Dealing.{sideAt, scaleTens, lacksActivityAt, Allowed};
+ghost use Rattle.book_shares.specs.Intensities.{intensityReply, intensityGrounds, intensityOf};
+ghost use Rattle.book_shares.specs.Listing.{Listed, members as membersOf};
+use crate::listing::list_members;
 use crate::pools;
 use crate::pools::Stage;
 use crate::sharing;
@@ -38,16 +39,9 @@ pub fn intensity_sound(book: &[u64], category: u64, code: u64) -> Intensity
     if refusal != 0 {
         return refused(refusal);
     }
-    let operation = result(book, category, code, Stage::Operation);
-    let provision = result(book, category, code, Stage::Provision);
-    if (MOST_RESULT < operation) | (MOST_RESULT < provision) {
-        return refused(10);
-    }
-    Intensity {
-        refusal: 0,
-        operation,
-        provision,
-    }
+    let mut places = [0usize; 256];
+    let count = list_members(book, category, &mut places);
+    measure_members(book, category, code, &places[..count])
 }
 
 // A refusal returns its number with zeros.
@@ -61,10 +55,10 @@ fn refused(refusal: u64) -> Intensity
     }
 }
 
-// The number of the first ground before 10 that holds, or 0.
+// The number of the first ground before 9 that holds, or 0.
 fn refusal_number(book: &[u64], category: u64, code: u64) -> u64
     requires { ⌜ sound (now book) ≡ true ⌝ }
-    ensures { λ r. ⌜ r ≡ firstOf (take 5 (intensityGrounds (now (book .entry)) category code)) ⌝ }
+    ensures { λ r. ⌜ r ≡ firstOf (take 4 (intensityGrounds (now (book .entry)) category code)) ⌝ }
 {
     if !((1 <= category) & (category <= book[book_words::CATEGORIES])) {
         return 2;
@@ -76,46 +70,66 @@ fn refusal_number(book: &[u64], category: u64, code: u64) -> u64
     if r.closed == 0 {
         return 5;
     }
-    if lacks_activity(book, category, code) {
-        return 9;
-    }
     0
 }
 
+// The same where none of these holds, with the category's elements listed.
+fn measure_members(book: &[u64], category: u64, code: u64, members: &[usize]) -> Intensity
+    requires { ⌜ firstOf (take 4 (intensityGrounds (now book) category code)) ≡ 0 ⌝ }
+    requires { ⌜ now members ≡ membersOf (now book) category ⌝ }
+    ensures { λ r. ⌜ r ≡ intensityReply (now (book .entry)) category code ⌝ }
+{
+    if lacks_activity(book, members, code) {
+        return refused(9);
+    }
+    let operation = result(book, category, code, members, Stage::Operation);
+    let provision = result(book, category, code, members, Stage::Provision);
+    if (MOST_RESULT < operation) | (MOST_RESULT < provision) {
+        return refused(10);
+    }
+    Intensity {
+        refusal: 0,
+        operation,
+        provision,
+    }
+}
+
 // F, S or C of the intensity is 0.
-fn lacks_activity(book: &[u64], category: u64, code: u64) -> bool
+fn lacks_activity(book: &[u64], members: &[usize], code: u64) -> bool
     requires { ⌜ sound (now book) ≡ true ⌝ }
-    ensures { λ r. ⌜ r ≡ lacksActivity (now (book .entry)) category code ⌝ }
+    requires { ⌜ Listed (now book) (now members) ⌝ }
+    ensures { λ r. ⌜ r ≡ lacksActivityAt (now (book .entry)) (now (members .entry)) code ⌝ }
 {
     if code == 100 {
-        return weights::activity_among(book, category, Takers::Passengers) == 0;
+        return weights::activity_among(book, members, Takers::Passengers) == 0;
     }
-    let freight = weights::activity_among(book, category, Takers::Freight);
+    let freight = weights::activity_among(book, members, Takers::Freight);
     (freight == 0)
-        | ((code != 0) & (weights::activity_among(book, category, Takers::Group(code)) == 0))
+        | ((code != 0) & (weights::activity_among(book, members, Takers::Group(code)) == 0))
 }
 
 // The intensity of one side, capped.
-fn result(book: &[u64], category: u64, code: u64, stage: Stage) -> u64
-    requires { ⌜ sound (now book) ≡ true ⌝ }
-    requires { ⌜ between 1 (categories (now book)) category ≡ true ⌝ }
-    requires { ⌜ lacksActivity (now book) category code ≡ false ⌝ }
+fn result(book: &[u64], category: u64, code: u64, members: &[usize], stage: Stage) -> u64
+    requires { ⌜ Allowed (now book) category code ⌝ }
+    requires { ⌜ now members ≡ membersOf (now book) category ⌝ }
     ensures { λ r. ⌜ r ≡ capped (intensityOf (now (book .entry)) category code (sideAt stage)) ⌝ }
 {
-    let parts = sharing::divide_all(book, category, stage);
+    let pools = pools::pools_of(book, category, stage);
+    let activity = weights::activity_among(book, members, Takers::Freight);
+    let mass = weights::passengers_by_mass(book, members);
+    let parts = sharing::divide_all(pools.all, activity, mass);
     if code == 100 {
-        let total = weights::activity_among(book, category, Takers::Passengers);
+        let total = weights::activity_among(book, members, Takers::Passengers);
         return quotient(parts.passengers, 2, total);
     }
     let tens = scale_tens(book_words::category_of(book, category).kind);
-    let total = weights::activity_among(book, category, Takers::Freight);
-    let freight = quotient(parts.freight, tens, total);
+    let freight = quotient(parts.freight, tens, activity);
     if code == 0 {
         return freight;
     }
-    let amount = pools::pool(book, category, code, stage);
-    let activity = weights::activity_among(book, category, Takers::Group(code));
-    book_words::add(freight, quotient(amount, tens, activity))
+    let amount = pools::group_pool(pools, code);
+    let total = weights::activity_among(book, members, Takers::Group(code));
+    book_words::add(freight, quotient(amount, tens, total))
 }
 
 // How many tens the scale of a kind is the product of: none for a hub, else three.

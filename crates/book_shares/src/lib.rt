@@ -2,6 +2,7 @@
 // activities that they are divided by, and what each element gets.
 mod closings;
 mod intensities;
+mod listing;
 mod pools;
 mod sharing;
 mod weights;

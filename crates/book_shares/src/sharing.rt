@@ -1,15 +1,16 @@
 // What each element of a category gets.
 ghost use mathlib.Core.Bool.{true};
+ghost use mathlib.Core.List.{_∷_, []};
 ghost use mathlib.Core.Path.{_≡_};
-ghost use Prim.Native.Nat.{ℕ, _≤_, _*_, _+_};
+ghost use Prim.Native.Nat.{ℕ, _≤_, _<_, _*_, _+_};
 ghost use lib.ListN.{length};
 ghost use Rattle.apportion.specs.Dividing.{largest, divided};
 ghost use Rattle.apportion.specs.Places.{at, listBelow};
-ghost use Rattle.book_words.specs.Book.{elements};
 ghost use Rattle.book_words.specs.Soundness.{sound};
 ghost use Rattle.book_shares.specs.Closing.{closeRefusal};
-ghost use Rattle.book_shares.specs.Dealing.{ToDivideBy, sideAt, Dealable};
-ghost use Rattle.book_shares.specs.Shares.{freightPart, passengerPart, partAt, weights as weightsOf, closingShare};
+ghost use Rattle.book_shares.specs.Dealing.{sideAt, Dealable, partsBy};
+ghost use Rattle.book_shares.specs.Listing.{Listed, members as membersOf, weightsAt, atPlaces};
+ghost use Rattle.book_shares.specs.Shares.{closingShare};
 use crate::pools;
 use crate::pools::Stage;
 use crate::weights;
@@ -22,15 +23,23 @@ pub struct Parts {
     pub passengers: u64,
 }
 
-// Divides A by the weights F and P, in that order.
-pub fn divide_all(book: &[u64], category: u64, stage: Stage) -> Parts
-    requires { ⌜ sound (now book) ≡ true ⌝ }
-    requires { ⌜ ToDivideBy (now book) category ⌝ }
-    ensures { λ r. ⌜ r ≡ record { freight = freightPart (now (book .entry)) category (sideAt stage); passengers = passengerPart (now (book .entry)) category (sideAt stage) } ⌝ }
+// Divides A by the weights F and P, in that order. Where one of them is 0, the other gets all.
+pub fn divide_all(all: u64, activity: u64, mass: u64) -> Parts
+    requires { ⌜ (all ≤ largest) × (0 < activity + mass) × (activity + mass ≤ largest) ⌝ }
+    ensures { λ r. ⌜ r ≡ partsBy all activity mass ⌝ }
 {
-    let all = pools::pool(book, category, 0, stage);
-    let activity = weights::activity_among(book, category, Takers::Freight);
-    let mass = weights::passengers_by_mass(book, category);
+    if mass == 0 {
+        return Parts {
+            freight: all,
+            passengers: 0,
+        };
+    }
+    if activity == 0 {
+        return Parts {
+            freight: 0,
+            passengers: all,
+        };
+    }
     let mut parts = [0u64; 2];
     // Accepted: the weights sum to more than 0, and they and A are within 10^18.
     apportion::divide(all, &[activity, mass], &mut parts);
@@ -40,20 +49,24 @@ pub fn divide_all(book: &[u64], category: u64, stage: Stage) -> Parts
     }
 }
 
-// Adds to each share its part of an amount.
-fn deal(book: &[u64], category: u64, takers: Takers, amount: u64, shares: &mut [u64])
+// Adds to the share of each element its part of an amount. An amount of 0 adds nothing.
+fn deal(book: &[u64], members: &[usize], takers: Takers, amount: u64, shares: &mut [u64])
     requires { ⌜ sound (now book) ≡ true ⌝ }
-    requires { ⌜ Dealable (now book) category takers amount ⌝ }
-    requires { ⌜ length (now shares) ≡ elements (now book) ⌝ }
+    requires { ⌜ Listed (now book) (now members) ⌝ }
+    requires { ⌜ Dealable (now book) (now members) takers amount ⌝ }
+    requires { ⌜ length (now shares) ≡ length (now members) ⌝ }
     requires { ⌜ ((k : ℕ) → at (now shares) k ≤ 3 * largest) ⌝ }
-    ensures { λ _. ⌜ now (shares .exit) ≡ listBelow (elements (now (book .entry))) (λ k. at (now (shares .entry)) k + partAt (now (book .entry)) category takers amount k) ⌝ }
+    ensures { λ _. ⌜ now (shares .exit) ≡ listBelow (length (now (members .entry))) (λ k. at (now (shares .entry)) k + at (divided amount (weightsAt (now (book .entry)) (now (members .entry)) takers)) k) ⌝ }
 {
-    let count = shares.len();
+    if amount == 0 {
+        return;
+    }
+    let count = members.len();
     let mut space = [0u64; 256];
     let mut parts = [0u64; 256];
     deal_parts(
         book,
-        category,
+        members,
         takers,
         amount,
         &mut space[..count],
@@ -65,7 +78,7 @@ fn deal(book: &[u64], category: u64, takers: Takers, amount: u64, shares: &mut [
 // The same, with the weights and the parts written beside the shares.
 fn deal_parts(
     book: &[u64],
-    category: u64,
+    members: &[usize],
     takers: Takers,
     amount: u64,
     weights: &mut [u64],
@@ -73,14 +86,15 @@ fn deal_parts(
     shares: &mut [u64],
 )
     requires { ⌜ sound (now book) ≡ true ⌝ }
-    requires { ⌜ Dealable (now book) category takers amount ⌝ }
-    requires { ⌜ (length (now weights) ≡ elements (now book)) × (length (now parts) ≡ elements (now book)) × (length (now shares) ≡ elements (now book)) ⌝ }
+    requires { ⌜ Listed (now book) (now members) ⌝ }
+    requires { ⌜ Dealable (now book) (now members) takers amount ⌝ }
+    requires { ⌜ (length (now weights) ≡ length (now members)) × (length (now parts) ≡ length (now members)) × (length (now shares) ≡ length (now members)) ⌝ }
     requires { ⌜ ((k : ℕ) → at (now shares) k ≤ 3 * largest) ⌝ }
-    ensures { λ _. ⌜ now (weights .exit) ≡ weightsOf (now (book .entry)) category takers ⌝ }
-    ensures { λ _. ⌜ now (parts .exit) ≡ divided amount (weightsOf (now (book .entry)) category takers) ⌝ }
-    ensures { λ _. ⌜ now (shares .exit) ≡ listBelow (elements (now (book .entry))) (λ k. at (now (shares .entry)) k + partAt (now (book .entry)) category takers amount k) ⌝ }
+    ensures { λ _. ⌜ now (weights .exit) ≡ weightsAt (now (book .entry)) (now (members .entry)) takers ⌝ }
+    ensures { λ _. ⌜ now (parts .exit) ≡ divided amount (weightsAt (now (book .entry)) (now (members .entry)) takers) ⌝ }
+    ensures { λ _. ⌜ now (shares .exit) ≡ listBelow (length (now (members .entry))) (λ k. at (now (shares .entry)) k + at (divided amount (weightsAt (now (book .entry)) (now (members .entry)) takers)) k) ⌝ }
 {
-    set_weights(book, category, takers, weights);
+    set_weights(book, members, takers, weights);
     // Accepted: where the weights sum to 0 the amount is 0, and both are within 10^18.
     apportion::divide(amount, weights, parts);
     add_parts(parts, shares);
@@ -100,18 +114,20 @@ fn add_parts(parts: &[u64], shares: &mut [u64])
     }
 }
 
-// Writes the share of each element into shares that are 0.
-pub fn set_shares(book: &[u64], category: u64, stage: Stage, shares: &mut [u64])
+// Writes the share of each element of the category into shares that are 0.
+pub fn set_shares(book: &[u64], category: u64, members: &[usize], stage: Stage, shares: &mut [u64])
     requires { ⌜ closeRefusal (now book) category ≡ 0 ⌝ }
-    requires { ⌜ length (now shares) ≡ elements (now book) ⌝ }
+    requires { ⌜ now members ≡ membersOf (now book) category ⌝ }
+    requires { ⌜ length (now shares) ≡ length (now members) ⌝ }
     requires { ⌜ ((k : ℕ) → at (now shares) k ≡ 0) ⌝ }
-    ensures { λ _. ⌜ now (shares .exit) ≡ listBelow (elements (now (book .entry))) (closingShare (now (book .entry)) category (sideAt stage)) ⌝ }
+    ensures { λ _. ⌜ now (shares .exit) ≡ atPlaces (now (members .entry)) (closingShare (now (book .entry)) category (sideAt stage)) ⌝ }
 {
-    let parts = divide_all(book, category, stage);
-    let chilled = pools::pool(book, category, 1, stage);
-    let frozen = pools::pool(book, category, 2, stage);
-    deal(book, category, Takers::Freight, parts.freight, shares);
-    deal(book, category, Takers::Passengers, parts.passengers, shares);
-    deal(book, category, Takers::Group(1), chilled, shares);
-    deal(book, category, Takers::Group(2), frozen, shares);
+    let activity = weights::activity_among(book, members, Takers::Freight);
+    let mass = weights::passengers_by_mass(book, members);
+    let pools = pools::pools_of(book, category, stage);
+    let parts = divide_all(pools.all, activity, mass);
+    deal(book, members, Takers::Freight, parts.freight, shares);
+    deal(book, members, Takers::Passengers, parts.passengers, shares);
+    deal(book, members, Takers::Group(1), pools.chilled, shares);
+    deal(book, members, Takers::Group(2), pools.frozen, shares);
 }

@@ -1,9 +1,7 @@
--- `book_shares::closings::give_shares` meets its contract: the two words are written where the element is of the category.
--- Assumes nothing.
+-- `book_shares::closings::give_shares` meets its contract: the two words are written. Assumes nothing.
 use native.Mathlib.Omega.{arith}
 use lib.ListN.{length-set}
 use borrow.Author.Needs.{needs}
-use borrow.Author.Tests.{eq-eqb, ne-eqb}
 use Rattle.book_shares.proofs.closings.give_shares.Statement.{statement}
 use Rattle.book_shares.proofs.closings.give_shares.Tie as tie
 
@@ -12,12 +10,6 @@ mul-at c = search needs
 
 add-at : tie.Need-add-at
 add-at c = search needs
-
-mul-if1 : tie.Need-mul-if1
-mul-if1 c = search needs
-
-slice-read-if1 : tie.Need-slice-read-if1
-slice-read-if1 c = search needs
 
 add-book : tie.Need-add-book
 add-book c = search needs
@@ -41,10 +33,7 @@ same-length : tie.Need-same-length
 same-length c = search needs
 
 returns : tie.Need-returns
-returns c = rw (eq-eqb _ _ (c .if1 .taken))
-
-returns-2 : tie.Need-returns-2
-returns-2 c = rw (ne-eqb _ _ (c .if1 .left))
+returns c = search needs
 
 pub give-shares-spec : {M : Type 1} → statement M
 give-shares-spec =
@@ -52,8 +41,6 @@ give-shares-spec =
     (tie.spec
     mul-at
     add-at
-    mul-if1
-    slice-read-if1
     add-book
     mul-book
     slice-write-book
@@ -61,5 +48,4 @@ give-shares-spec =
     mul-book-2
     slice-write-book-2
     same-length
-    returns
-    returns-2)
+    returns)

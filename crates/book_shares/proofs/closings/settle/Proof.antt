@@ -1,39 +1,37 @@
 -- `book_shares::closings::settle` meets its contract: the elements fit the arrays, which are 0. Assumes nothing.
 use mathlib.Core.Path.{sym}
-use native.Mathlib.Omega.{arith}
+use Prim.Native.Nat.{_≤_}
+use lib.ListN.{length}
 use lib.Seq.{length-take-le}
 use borrow.Author.Needs.{needs}
-use Rattle.book_words.specs.Book.{elements}
-use Rattle.book_words.specs.Parts.{CountsWithin}
-use Rattle.book_words.proofs.Facts.{sound-counted}
+use Rattle.book_shares.specs.Listing.{members}
 use Rattle.book_shares.proofs.Closable.{closable}
 use Rattle.book_shares.proofs.Dealt.{zeros-at}
+use Rattle.book_shares.proofs.Listed.{members-few}
 use Rattle.book_shares.proofs.closings.settle.Statement.{statement}
 use Rattle.book_shares.proofs.closings.settle.Tie as tie
 
-counts : (s : tie.Start) → CountsWithin (s .args .book .now)
-counts s = sound-counted (s .args .book .now) (closable (s .args .book .now) (s .args .category) (s .pre) .fine)
-
-slice-read-count : tie.Need-slice-read-count
-slice-read-count c = omega (arith, counts (c .before .before))
+-- the elements fit the arrays
+few : (s : tie.Start) → length (s .args .members .now) ≤ 256
+few s = rw (s .pre .1) (members-few (s .args .book .now) (s .args .category) (closable (s .args .book .now) (s .args .category) (s .pre .0) .fine))
 
 array-borrow-prefix-operation : tie.Need-array-borrow-prefix-operation
-array-borrow-prefix-operation c = counts (c .before .before .before) .elements-most
+array-borrow-prefix-operation c = few (c .before .before .before)
 
 slice-aggregate-settle-sides : tie.Need-slice-aggregate-settle-sides
-slice-aggregate-settle-sides c = sym (length-take-le _ _ (counts (c .before .before .before .before) .elements-most))
+slice-aggregate-settle-sides c = sym (length-take-le _ _ (few (c .before .before .before .before)))
 
 array-borrow-prefix-provision : tie.Need-array-borrow-prefix-provision
-array-borrow-prefix-provision c = counts (c .before .before .before .before) .elements-most
+array-borrow-prefix-provision c = few (c .before .before .before .before)
 
 slice-aggregate-settle-sides-2 : tie.Need-slice-aggregate-settle-sides-2
-slice-aggregate-settle-sides-2 c = sym (length-take-le _ _ (counts (c .before .before .before .before .before) .elements-most))
+slice-aggregate-settle-sides-2 c = sym (length-take-le _ _ (few (c .before .before .before .before .before)))
 
 settle-sides-requires : tie.Need-settle-sides-requires
 settle-sides-requires c κs =
     let s = c .before .before .before .before .before in
-    let whole = length-take-le _ _ (counts s .elements-most) in
-    (s .pre, ((whole, whole), (zeros-at (elements (s .args .book .now)) 256, zeros-at (elements (s .args .book .now)) 256)))
+    let whole = length-take-le _ _ (few s) in
+    (s .pre .0, (s .pre .1, ((whole, whole), (zeros-at (length (s .args .members .now)) 256, zeros-at (length (s .args .members .now)) 256))))
 
 same-length : tie.Need-same-length
 same-length c = search needs
@@ -45,7 +43,6 @@ pub settle-spec : {M : Type 1} → statement M
 settle-spec =
     tie.close
     (tie.spec
-    slice-read-count
     array-borrow-prefix-operation
     slice-aggregate-settle-sides
     array-borrow-prefix-provision

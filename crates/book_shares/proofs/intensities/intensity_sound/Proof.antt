@@ -1,28 +1,22 @@
--- `book_shares::intensities::intensity_sound` meets its contract: the grounds before 10, then 10 by the two results, which within
--- 10^15 are not capped. Assumes nothing.
-use mathlib.Core.Bool.{_||_}
-use mathlib.Core.Path.{sym, _∙_, _≡_}
+-- `book_shares::intensities::intensity_sound` meets its contract: a ground before 9 refuses, and else the elements that are listed
+-- are those of the category. Assumes nothing.
+use mathlib.Core.Path.{sym, _∙_}
+use Prim.Native.Nat.{_≤_}
 use native.Mathlib.Omega.{arith}
-use lib.Dec.{ltb}
+use lib.ListN.{length}
+use lib.Seq.{length-take-le}
 use borrow.Author.Needs.{needs}
-use Rattle.book_words.specs.Totals.{operation, provision}
-use Rattle.book_shares.specs.Intensities.{passesIntensity, mostResult}
-use Rattle.apportion.proofs.Grounds.{stopped, or-none, passed}
-use Rattle.book_shares.proofs.Results.{Allowed, intensity-allowed, ten, reply-refused, earlier-refused, reply-accepted, uncapped}
+use Rattle.book_words.proofs.Facts.{sound-counted}
+use Rattle.book_shares.proofs.Listed.{front-taken, members-few}
+use Rattle.book_shares.proofs.Results.{reply-refused, earlier-refused}
 use Rattle.book_shares.proofs.intensities.intensity_sound.Statement.{statement}
 use Rattle.book_shares.proofs.intensities.intensity_sound.Tie as tie
 
--- what is known after the grounds before 10
-kept : (c : tie.Else1) → Allowed (c .before .before .before .args .book .now) (c .before .before .before .args .category) (c .before .before .before .args .code)
-kept c =
-    let s = c .before .before .before in
-    intensity-allowed (s .args .book .now) (s .args .category) (s .args .code) (sym (c .before .refusal-number .ensures) ∙ c .if1 .left)
-
--- ground 10, by the two results
-tested : (c : tie.After-result2) → passesIntensity (c .before .before .before .before .before .args .book .now) (c .before .before .before .before .before .args .category) (c .before .before .before .before .before .args .code) ≡ ltb mostResult (c .before .result .result) || ltb mostResult (c .result2 .result)
-tested c =
+-- the elements fit the array
+few : (c : tie.After-list-members) → c .list-members .result ≤ length (c .list-members .last .1 .1 .0)
+few c =
     let s = c .before .before .before .before .before in
-    ten (s .args .book .now) (s .args .category) (s .args .code) _ _ (c .before .result .ensures) (c .result2 .ensures)
+    omega (arith, c .list-members .ensures .0, c .list-members .kept .1 .1 .0, members-few (s .args .book .now) (s .args .category) (s .pre))
 
 refusal-number-requires : tie.Need-refusal-number-requires
 refusal-number-requires c κs = search needs
@@ -34,33 +28,27 @@ returns : tie.Need-returns
 returns c =
     let s = c .before .before .before .before in
     c .refused .ensures
-    ∙ reply-refused (s .args .book .now) (s .args .category) (s .args .code) _
-    (earlier-refused (s .args .book .now) (s .args .category) (s .args .code) _ (c .before .before .refusal-number .ensures) (c .before .if1 .taken)) (c .before .if1 .taken)
+    ∙ reply-refused (s .args .book .now) (s .args .category) (s .args .code) _ (earlier-refused (s .args .book .now) (s .args .category) (s .args .code) _ (c .before .before .refusal-number .ensures) (c .before .if1 .taken)) (c .before .if1 .taken)
 
-result-requires : tie.Need-result-requires
-result-requires c κs = let k = kept c in (k .fine, (k .numbered, k .some-activity))
+slice-aggregate-list-members : tie.Need-slice-aggregate-list-members
+slice-aggregate-list-members c = search needs
 
-result-requires-2 : tie.Need-result-requires-2
-result-requires-2 c κs = let k = kept (c .before) in (k .fine, (k .numbered, k .some-activity))
+list-members-requires : tie.Need-list-members-requires
+list-members-requires c κs =
+    let s = c .before .before .before .before in
+    (s .pre, sound-counted (s .args .book .now) (s .pre) .elements-most)
 
-refused-requires-2 : tie.Need-refused-requires-2
-refused-requires-2 c κs = search needs
+array-share-prefix-places : tie.Need-array-share-prefix-places
+array-share-prefix-places c = few (c .before)
+
+slice-aggregate-measure-members : tie.Need-slice-aggregate-measure-members
+slice-aggregate-measure-members c = sym (length-take-le _ _ (few (c .before .before)))
+
+measure-members-requires : tie.Need-measure-members-requires
+measure-members-requires c κs = (sym (c .before .before .before .before .before .refusal-number .ensures) ∙ c .before .before .before .before .if1 .left, front-taken _ _ _ _ (c .before .before .list-members .ensures .0) (c .before .before .list-members .ensures .1))
 
 returns-2 : tie.Need-returns-2
-returns-2 c =
-    let s = c .before .before .before .before .before .before .before in
-    c .refused2 .ensures
-    ∙ reply-refused (s .args .book .now) (s .args .category) (s .args .code) 10
-    (sym (kept (c .before .before .before .before) .only-ten ∙ stopped 10 0 (tested (c .before .before) ∙ c .before .if2 .taken))) (λ z. omega arith)
-
-returns-3 : tie.Need-returns-3
-returns-3 c =
-    let s = c .before .before .before .before .before .before in
-    let within = or-none (ltb mostResult (c .before .before .result .result)) (ltb mostResult (c .before .result2 .result)) (c .if2 .left) in
-    reply-accepted (s .args .book .now) (s .args .category) (s .args .code) _ _
-    (kept (c .before .before .before) .only-ten ∙ passed 10 (tested (c .before) ∙ c .if2 .left))
-    (uncapped (s .args .book .now) (s .args .category) (s .args .code) operation _ (within .0) (c .before .before .result .ensures))
-    (uncapped (s .args .book .now) (s .args .category) (s .args .code) provision _ (within .1) (c .before .result2 .ensures))
+returns-2 c = c .measure-members .ensures
 
 pub intensity-sound-spec : {M : Type 1} → statement M
 intensity-sound-spec =
@@ -69,8 +57,9 @@ intensity-sound-spec =
     refusal-number-requires
     refused-requires
     returns
-    result-requires
-    result-requires-2
-    refused-requires-2
-    returns-2
-    returns-3)
+    slice-aggregate-list-members
+    list-members-requires
+    array-share-prefix-places
+    slice-aggregate-measure-members
+    measure-members-requires
+    returns-2)

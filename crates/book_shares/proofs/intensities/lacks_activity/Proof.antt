@@ -1,6 +1,7 @@
--- `book_shares::intensities::lacks_activity` meets its contract: the sums are those of the definition. Assumes nothing.
-use borrow.Author.Needs.{needs}
+-- `book_shares::intensities::lacks_activity` meets its contract: by the code, the sums are those of the definition. Assumes
+-- nothing.
 use borrow.Author.Tests.{eq-eqb, ne-eqb}
+use borrow.Author.Needs.{needs}
 use Rattle.book_shares.proofs.intensities.lacks_activity.Statement.{statement}
 use Rattle.book_shares.proofs.intensities.lacks_activity.Tie as tie
 

@@ -15,9 +15,9 @@ use Rattle.book_words.proofs.Numbered.{was-closed, was-open}
 use Rattle.book_shares.proofs.intensities.refusal_number.Statement.{statement}
 use Rattle.book_shares.proofs.intensities.refusal_number.Tie as tie
 
--- the grounds before 10
+-- the grounds before 9
 abbrev grounds : tie.Start → List Ground
-grounds s = take 5 (intensityGrounds (s .args .book .now) (s .args .category) (s .args .code))
+grounds s = take 4 (intensityGrounds (s .args .book .now) (s .args .category) (s .args .code))
 
 -- the first so many do not hold
 abbrev Past : ℕ → tie.Start → Type 0
@@ -31,15 +31,6 @@ past-2 c = past-1 (c .before .before .before) ∙ passed 2 (c .if1 .left)
 
 past-3 : (c : tie.Else2) → Past 3 (c .before .before .before .before)
 past-3 c = past-2 (c .before) ∙ passed 3 (c .if2 .left)
-
-past-4 : (c : tie.Else3) → Past 4 (c .before .before .before .before .before .before .before)
-past-4 c =
-    let s = c .before .before .before .before .before .before .before in
-    past-3 (c .before .before .before)
-    ∙ passed 5 (ap not (was-closed (s .args .book .now) (s .args .category) (c .before .before .category-of .result) (c .before .before .category-of .ensures) (c .before .before .before .before .if1 .left) (c .if3 .left)))
-
-past-5 : (c : tie.Else4) → Past 5 (c .before .before .before .before .before .before .before .before .before)
-past-5 c = past-4 (c .before .before) ∙ passed 9 (sym (c .before .lacks-activity .ensures) ∙ c .if4 .left)
 
 shared-slice-read-if1 : tie.Need-shared-slice-read-if1
 shared-slice-read-if1 c = omega (arith, sound-counted (c .before .before .args .book .now) (c .before .before .pre))
@@ -59,24 +50,13 @@ returns-3 c =
     sym (past-3 (c .before .before .before)
     ∙ stopped 5 _ (ap not (was-open (s .args .book .now) (s .args .category) (c .before .before .category-of .result) (c .before .before .category-of .ensures) (c .before .before .before .before .if1 .left) (c .if3 .taken))))
 
-lacks-activity-requires : tie.Need-lacks-activity-requires
-lacks-activity-requires c κs = search needs
-
 returns-4 : tie.Need-returns-4
-returns-4 c = sym (past-4 (c .before .before) ∙ stopped 9 _ (sym (c .before .lacks-activity .ensures) ∙ c .if4 .taken))
-
-returns-5 : tie.Need-returns-5
-returns-5 c = sym (past-5 c)
+returns-4 c =
+    let s = c .before .before .before .before .before .before .before in
+    sym (past-3 (c .before .before .before)
+    ∙ passed 5 (ap not (was-closed (s .args .book .now) (s .args .category) (c .before .before .category-of .result) (c .before .before .category-of .ensures) (c .before .before .before .before .if1 .left) (c .if3 .left))))
 
 pub refusal-number-spec : {M : Type 1} → statement M
 refusal-number-spec =
     tie.close
-    (tie.spec
-    shared-slice-read-if1
-    returns
-    returns-2
-    category-of-requires
-    returns-3
-    lacks-activity-requires
-    returns-4
-    returns-5)
+    (tie.spec shared-slice-read-if1 returns returns-2 category-of-requires returns-3 returns-4)

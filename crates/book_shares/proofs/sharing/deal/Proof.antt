@@ -1,53 +1,58 @@
--- `book_shares::sharing::deal` meets its contract: the elements fit the arrays. Assumes nothing.
-use mathlib.Core.Path.{sym, _∙_}
+-- `book_shares::sharing::deal` meets its contract: an amount of 0 adds nothing, and else the elements fit the arrays. Assumes
+-- nothing.
+use mathlib.Core.Path.{sym}
 use Prim.Native.Nat.{_≤_}
-use native.Mathlib.Omega.{arith}
 use lib.ListN.{length}
 use lib.Seq.{length-take-le}
 use borrow.Author.Needs.{needs}
-use Rattle.book_words.proofs.Facts.{sound-counted}
+use Rattle.book_shares.specs.Listing.{weightsAt}
+use Rattle.book_shares.proofs.Dealt.{nothing-dealt}
+use Rattle.book_shares.proofs.Listed.{listed-few}
 use Rattle.book_shares.proofs.sharing.deal.Statement.{statement}
 use Rattle.book_shares.proofs.sharing.deal.Tie as tie
 
+-- the elements fit the arrays
+few : (s : tie.Start) → length (s .args .members .now) ≤ 256
+few s = listed-few (s .args .book .now) (s .args .members .now) (s .pre .0) (s .pre .1 .0)
+
+returns : tie.Need-returns
+returns c =
+    let s = c .before .before .before .before in
+    nothing-dealt (s .args .amount) (length (s .args .members .now)) (weightsAt (s .args .book .now) (s .args .members .now) (s .args .takers)) (s .args .shares .now) (c .if1 .taken) (s .pre .1 .1 .1 .0)
+
 array-borrow-prefix-space : tie.Need-array-borrow-prefix-space
-array-borrow-prefix-space c = omega (arith, sound-counted (c .before .before .args .book .now) (c .before .before .pre .0), c .before .before .pre .1 .1 .0)
+array-borrow-prefix-space c = few (c .before .before .before .before)
 
 slice-aggregate-deal-parts : tie.Need-slice-aggregate-deal-parts
-slice-aggregate-deal-parts c =
-    let s = c .before .before .before in
-    sym (length-take-le _ _ (omega (arith, sound-counted (s .args .book .now) (s .pre .0), s .pre .1 .1 .0)))
+slice-aggregate-deal-parts c = sym (length-take-le _ _ (few (c .before .before .before .before .before)))
 
 array-borrow-prefix-parts : tie.Need-array-borrow-prefix-parts
-array-borrow-prefix-parts c =
-    let s = c .before .before .before in
-    omega (arith, sound-counted (s .args .book .now) (s .pre .0), s .pre .1 .1 .0)
+array-borrow-prefix-parts c = few (c .before .before .before .before .before)
 
 slice-aggregate-deal-parts-2 : tie.Need-slice-aggregate-deal-parts-2
-slice-aggregate-deal-parts-2 c =
-    let s = c .before .before .before .before in
-    sym (length-take-le _ _ (omega (arith, sound-counted (s .args .book .now) (s .pre .0), s .pre .1 .1 .0)))
+slice-aggregate-deal-parts-2 c = sym (length-take-le _ _ (few (c .before .before .before .before .before .before)))
 
 deal-parts-requires : tie.Need-deal-parts-requires
 deal-parts-requires c κs =
-    let s = c .before .before .before .before .before in
-    let long : length (s .args .shares .now) ≤ 256 = omega (arith, sound-counted (s .args .book .now) (s .pre .0), s .pre .1 .1 .0) in
-    let whole = length-take-le _ _ long ∙ s .pre .1 .1 .0 in
-    (s .pre .0, (s .pre .1 .0, ((whole, whole, s .pre .1 .1 .0), s .pre .1 .1 .1)))
+    let s = c .before .before .before .before .before .before .before in
+    let whole = length-take-le _ _ (few s) in
+    (s .pre .0, (s .pre .1 .0, (s .pre .1 .1 .0, ((whole, whole, s .pre .1 .1 .1 .0), s .pre .1 .1 .1 .1))))
 
 same-length : tie.Need-same-length
 same-length c = search needs
 
-returns : tie.Need-returns
-returns c = c .before .before .before .before .deal-parts .ensures .1 .1
+returns-2 : tie.Need-returns-2
+returns-2 c = c .before .before .before .before .deal-parts .ensures .1 .1
 
 pub deal-spec : {M : Type 1} → statement M
 deal-spec =
     tie.close
     (tie.spec
+    returns
     array-borrow-prefix-space
     slice-aggregate-deal-parts
     array-borrow-prefix-parts
     slice-aggregate-deal-parts-2
     deal-parts-requires
     same-length
-    returns)
+    returns-2)

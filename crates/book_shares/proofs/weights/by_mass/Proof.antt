@@ -1,4 +1,4 @@
--- `book_shares::weights::by_mass` meets its contract: the product where the two tests hold, capped. Assumes nothing.
+-- `book_shares::weights::by_mass` meets its contract: the product where the test holds, capped. Assumes nothing.
 use mathlib.Core.Path.{sym, _∙_, ap}
 use Prim.Native.Nat.{ℕ, _*_}
 use borrow.Author.Needs.{needs}
@@ -7,8 +7,8 @@ use Rattle.book_words.proofs.Capping.{capped-times}
 use Rattle.book_shares.proofs.weights.by_mass.Statement.{statement}
 use Rattle.book_shares.proofs.weights.by_mass.Tie as tie
 
-goes-to-requires : tie.Need-goes-to-requires
-goes-to-requires c κs = search needs
+is-taker-requires : tie.Need-is-taker-requires
+is-taker-requires c κs = search needs
 
 multiply-requires : tie.Need-multiply-requires
 multiply-requires c κs = search needs
@@ -19,12 +19,12 @@ multiply-requires-2 c κs = search needs
 returns : tie.Need-returns
 returns c =
     let e = c .before .before .before .before .args .e in
-    rw (sym (c .before .before .before .goes-to .ensures) ∙ c .before .before .if1 .taken)
+    rw (sym (c .before .before .before .is-taker .ensures) ∙ c .before .before .if1 .taken)
     (c .multiply2 .ensures ∙ ap (λ (n : ℕ). capped (n * e .distance)) (c .before .multiply .ensures) ∙ capped-times (e .amount * 100) (e .distance))
 
 returns-2 : tie.Need-returns-2
-returns-2 c = rw (sym (c .before .goes-to .ensures) ∙ c .if1 .left)
+returns-2 c = rw (sym (c .before .is-taker .ensures) ∙ c .if1 .left)
 
 pub by-mass-spec : {M : Type 1} → statement M
 by-mass-spec =
-    tie.close (tie.spec goes-to-requires multiply-requires multiply-requires-2 returns returns-2)
+    tie.close (tie.spec is-taker-requires multiply-requires multiply-requires-2 returns returns-2)

@@ -1,17 +1,17 @@
--- `book_shares::weights::weight` meets its contract: the activity where the two tests hold. Assumes nothing.
+-- `book_shares::weights::weight` meets its contract: the activity where the test holds. Assumes nothing.
 use mathlib.Core.Path.{sym, _∙_}
 use borrow.Author.Needs.{needs}
 use Rattle.book_shares.proofs.weights.weight.Statement.{statement}
 use Rattle.book_shares.proofs.weights.weight.Tie as tie
 
-goes-to-requires : tie.Need-goes-to-requires
-goes-to-requires c κs = search needs
+is-taker-requires : tie.Need-is-taker-requires
+is-taker-requires c κs = search needs
 
 returns : tie.Need-returns
-returns c = rw (sym (c .before .goes-to .ensures) ∙ c .if1 .taken)
+returns c = rw (sym (c .before .is-taker .ensures) ∙ c .if1 .taken)
 
 returns-2 : tie.Need-returns-2
-returns-2 c = rw (sym (c .before .goes-to .ensures) ∙ c .if1 .left)
+returns-2 c = rw (sym (c .before .is-taker .ensures) ∙ c .if1 .left)
 
 pub weight-spec : {M : Type 1} → statement M
-weight-spec = tie.close (tie.spec goes-to-requires returns returns-2)
+weight-spec = tie.close (tie.spec is-taker-requires returns returns-2)
