@@ -8,7 +8,7 @@ use native.Mathlib.Numerals.{add-one}
 use native.Mathlib.Omega.{arith}
 use lib.ListN.{length}
 use Rattle.apportion.specs.Places.{at, countBelow}
-use Rattle.book_words.specs.Book.{elements, elementAt, putShares}
+use Rattle.book_words.specs.Book.{elements, putShares}
 use Rattle.book_words.specs.Totals.{Side, operation, provision}
 use Rattle.book_shares.specs.Closing.{handOut}
 use Rattle.book_shares.specs.Dealing.{handOutTo, listsBySide}

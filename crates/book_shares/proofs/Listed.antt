@@ -5,20 +5,19 @@ use mathlib.Core.List.{List, [], _∷_, _++_, append-nil, append-assoc}
 use mathlib.Core.Logic.{⊎-elim, inl, inr}
 use mathlib.Core.Path.{_≡_, refl, sym, ap, _∙_}
 use Prim.Native.Nat.{ℕ, zero, suc, _+_, _≤_, _<_}
-use native.Mathlib.Nat.{add-zero}
 use native.Mathlib.Numerals.{add-one}
 use native.Mathlib.Omega.{arith}
 use lib.ListN.{length, drop, take, set, length-append, List·getD-append}
 use lib.Seq.{getD-at, drop-cons, set-at, take-at}
 use Rattle.apportion.specs.Dividing.{divided, Divisible, largest}
-use Rattle.apportion.specs.Places.{at, sumBelow, oneIf, countBelow, listBelow, keptBelow, kept, sumOf}
+use Rattle.apportion.specs.Places.{at, oneIf, countBelow, keptBelow, kept, sumOf}
 use Rattle.book_words.specs.Book.{elements, elementAt, mostElements}
 use Rattle.book_words.specs.Measures.{byMass}
 use Rattle.book_words.specs.Parts.{numberedElement}
 use Rattle.book_words.specs.Soundness.{sound}
 use Rattle.book_words.specs.declared.records.Element.{Element}
 use Rattle.book_shares.specs.declared.weights.Takers.{Takers}
-use Rattle.book_shares.specs.declared.weights.Takers.the-variants.{Freight, Passengers}
+use Rattle.book_shares.specs.declared.weights.Takers.the-variants.{Passengers}
 use Rattle.book_shares.specs.Listing.{isMember, members, Listed, startingWith, atPlaces, taking, weightsAt, sumAt, activityAt, massAt}
 use Rattle.book_shares.specs.Shares.{weights, partAt}
 use Rattle.book_shares.specs.Sums.{among, sumAmong, activityAmong, passengersByMass}

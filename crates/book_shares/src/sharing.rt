@@ -1,6 +1,5 @@
 // What each element of a category gets.
 ghost use mathlib.Core.Bool.{true};
-ghost use mathlib.Core.List.{_∷_, []};
 ghost use mathlib.Core.Path.{_≡_};
 ghost use Prim.Native.Nat.{ℕ, _≤_, _<_, _*_, _+_};
 ghost use lib.ListN.{length};

@@ -1,6 +1,6 @@
 -- `book_shares::closings::close_sound` meets its contract: a ground before 9 refuses, and else the elements that are listed are
 -- those of the category. Assumes nothing.
-use mathlib.Core.Path.{_≡_, sym, _∙_}
+use mathlib.Core.Path.{sym, _∙_}
 use Prim.Native.Nat.{_≤_}
 use native.Mathlib.Omega.{arith}
 use lib.ListN.{length}

@@ -1,7 +1,6 @@
 -- `book_shares::closings::lacks_elements` meets its contract: the sums and the pools are those of the definition. Assumes
 -- nothing.
 use mathlib.Core.Path.{ap}
-use Prim.Native.Nat.{ℕ}
 use native.Mathlib.Omega.{arith}
 use borrow.Author.Tests.{eq-eqb, ne-eqb}
 use borrow.Author.Needs.{needs}

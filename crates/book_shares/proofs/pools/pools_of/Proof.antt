@@ -5,7 +5,6 @@ use Prim.Native.Nat.{_-_}
 use native.Mathlib.Omega.{arith}
 use borrow.Author.Needs.{needs}
 use Rattle.book_words.specs.Book.{entries}
-use Rattle.book_words.specs.declared.records.Entry.{Entry}
 use Rattle.book_shares.specs.Dealing.{sideAt, poolsWith}
 use Rattle.book_words.proofs.Facts.{sound-counted}
 use Rattle.book_words.proofs.Numbered.{next-entry}

@@ -12,7 +12,7 @@ use Rattle.book_shares.specs.declared.weights.Takers.{Takers}
 use Rattle.book_shares.specs.Listing.{taking, weightsAt}
 use Rattle.apportion.proofs.Lists.{filled, filled-next, filled-whole}
 use Rattle.book_words.proofs.Facts.{sound-counted}
-use Rattle.book_shares.proofs.Listed.{listed-inside, listed-read, listed-few}
+use Rattle.book_shares.proofs.Listed.{listed-inside, listed-read}
 use Rattle.book_shares.proofs.weights.set_weights.Statement.{statement}
 use Rattle.book_shares.proofs.weights.set_weights.Tie as tie
 
