@@ -94,6 +94,7 @@ abbrev pub withinLimits : Sums → Bool
 withinLimits sums =
     leb (sums .operation) largest && leb (sums .provision) largest && leb (sums .activity) mostActivity
 
+-- each of them capped
 abbrev pub capSums : Sums → Sums
 capSums sums =
     record {
