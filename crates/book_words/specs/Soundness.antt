@@ -11,7 +11,7 @@ use Rattle.book_words.specs.declared.records.Element.{Element}
 use Rattle.book_words.specs.declared.records.Entry.{Entry}
 use Rattle.book_words.specs.Book.{bookLength, mark, categories, mostCategories, entries, mostEntries, elements, mostElements, categoryOf, categoryAt, entryAt, elementAt}
 use Rattle.book_words.specs.Measures.{isKind, isGroup, unsuited, unsuitedGroup, between, isAmount, isDistance, activityOf, isChain, isCode}
-use Rattle.book_words.specs.Totals.{operation, provision, emitted, activities, mostActivity, sharesOf, unstruckOf}
+use Rattle.book_words.specs.Totals.{operation, provision, sumsOf, withinLimits, sharesOf, unstruckOf}
 
 -- every place below n passes the test
 abbrev pub allBelow : ℕ → (ℕ → Bool) → Bool
@@ -76,10 +76,7 @@ elementFine ws r =
 
 -- "the sums stay within refusal 10's limits"
 unfoldable pub sumsFine : List ℕ → Bool
-sumsFine ws =
-    leb (emitted ws operation) largest
-    && leb (emitted ws provision) largest
-    && leb (activities ws) mostActivity
+sumsFine ws = withinLimits (sumsOf ws)
 
 -- "in each closed category the shares sum to the category's unstruck entries, operation and provision each"
 -- (the category at this place has number place + 1)
