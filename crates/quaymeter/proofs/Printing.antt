@@ -14,14 +14,14 @@ use Rattle.book_file.specs.declared.answers.Load.the-variants.{Loaded, Stopped}
 use Rattle.book_file.specs.declared.answers.Place.{Place}
 use Rattle.book_words.specs.Soundness.{sound}
 use Rattle.report.proofs.Laws.{sheet-fits, refused-fits, fitting-written, fitting-buffer}
-use Rattle.report.specs.Printing.{answerFor, bufferWith}
+use Rattle.report.specs.Printing.{printedLength, answerFor, bufferWith}
 use Rattle.report.specs.Sheet.{sheetText, sheetRoom}
 use Rattle.report.specs.declared.printing.Printed.{Printed}
-use Rattle.quaymeter.specs.Program.{refusedLine, textFor, printedFrom, lengthOf}
+use Rattle.quaymeter.specs.Program.{refusedLine, textFor, printedFrom}
 
 -- a text that fits is printed whole
-pub whole-length : (text : List ℕ) (room : ℕ) (answer : Printed) → answer ≡ answerFor text room → length text ≤ room → lengthOf answer ≡ length text
-whole-length text room answer is h = ap lengthOf (is ∙ fitting-written text room h)
+pub whole-length : (text : List ℕ) (room : ℕ) (answer : Printed) → answer ≡ answerFor text room → length text ≤ room → printedLength answer ≡ length text
+whole-length text room answer is h = ap printedLength (is ∙ fitting-written text room h)
 
 -- the sheet of a book, or the line of a refusal
 fits-for : (answer : Load) (book : List ℕ) → (answer ≡ Loaded → sound book ≡ true) → length (textFor answer book) ≤ sheetRoom

@@ -10,8 +10,6 @@ use Rattle.book_file.specs.declared.answers.Load.{Load}
 use Rattle.book_file.specs.declared.answers.Load.the-variants.{Loaded, Stopped}
 use Rattle.book_file.specs.declared.answers.Numbers.{Numbers}
 use Rattle.report.specs.Sheet.{sheetText, refusedText}
-use Rattle.report.specs.declared.printing.Printed.{Printed}
-use Rattle.report.specs.declared.printing.Printed.the-variants.{Written, TooSmall, Refused}
 
 -- the line of a refusal, by its numbers
 abbrev pub refusedLine : Numbers → List ℕ
@@ -29,9 +27,3 @@ printedFrom words file = textFor (loadAnswer words file) (loadBook words file)
 -- what the program prints: it loads into words that are all 0
 abbrev pub printed : List ℕ → List ℕ
 printed file = printedFrom (replicate bookLength 0) file
-
--- the length of what is printed
-abbrev pub lengthOf : Printed → ℕ
-lengthOf (Written n) = n
-lengthOf (TooSmall n) = 0
-lengthOf (Refused number) = 0

@@ -8,9 +8,9 @@ ghost use Rattle.book_file.specs.Answers.{placeNumbers};
 ghost use Rattle.book_file.specs.File.{mostBytes};
 ghost use Rattle.book_file.specs.Loading.{loadBook};
 ghost use Rattle.book_words.specs.Soundness.{sound};
-ghost use Rattle.report.specs.Printing.{bufferWith};
+ghost use Rattle.report.specs.Printing.{printedLength, bufferWith};
 ghost use Rattle.report.specs.Sheet.{sheetText, sheetRoom};
-ghost use Rattle.quaymeter.specs.Program.{refusedLine, printedFrom, printed, lengthOf};
+ghost use Rattle.quaymeter.specs.Program.{refusedLine, printedFrom, printed};
 use book_file::Load;
 use book_file::Place;
 use libc::STDERR_FILENO;
@@ -67,7 +67,7 @@ fn print_refusal(number: u64, place: Place, out: &mut [u8]) -> usize
 
 // How many bytes are printed.
 fn length_of(printed: Printed) -> usize
-    ensures { λ r. ⌜ r ≡ lengthOf printed ⌝ }
+    ensures { λ r. ⌜ r ≡ printedLength printed ⌝ }
 {
     match printed {
         Printed::Written(count) => count,

@@ -1,16 +1,19 @@
 -- The laws of a sheet, for the crates above. Assumes nothing.
-use Prim.Native.Nat.{ℕ, _+_, _≤_}
+use Prim.Native.Nat.{ℕ, zero, suc, _+_, _≤_}
 use native.Mathlib.Nat.{zero-add}
 use native.Mathlib.Omega.{arith}
-use mathlib.Core.Bool.{true, false}
+use mathlib.Core.Bool.{Bool, true, false, cond}
 use mathlib.Core.List.{List, _++_}
-use mathlib.Core.Path.{_≡_, sym, _∙_, ap}
+use mathlib.Core.Path.{_≡_, refl, sym, _∙_, ap}
 use borrow.Author.Tests.{le-leb}
+use lib.Dec.{leb}
 use lib.ListN.{length, drop}
 use lib.Seq.{sets, sets-eq}
+use Rattle.apportion.specs.Grounds.{accepted}
 use Rattle.book_words.specs.Soundness.{sound}
-use Rattle.report.specs.declared.printing.Printed.the-variants.{Written, Refused}
-use Rattle.report.specs.Printing.{answerFor, bufferWith}
+use Rattle.report.specs.declared.printing.Printed.{Printed}
+use Rattle.report.specs.declared.printing.Printed.the-variants.{Written, TooSmall, Refused}
+use Rattle.report.specs.Printing.{printedRefusal, answerFor, bufferWith}
 use Rattle.report.specs.Sheet.{sheetText, sheetRoom, sheetRefusal, sheetAnswer, sheetBuffer, refusedText, refusedRoom}
 use Rattle.report.proofs.Lines.{sheet-most, refused-most}
 
@@ -31,6 +34,17 @@ module _ (ws : List ℕ) where
   pub sheet-unprinted : (buffer : List ℕ) → sound ws ≡ false → sheetBuffer ws buffer ≡ buffer
   unfolding sheetBuffer sheetRefusal
   sheet-unprinted buffer unsound = rw unsound
+
+  -- document 01's number of the answer is that of the first ground
+  pub answer-refusal : (room : ℕ) (answer : Printed) → answer ≡ sheetAnswer ws room → printedRefusal answer ≡ sheetRefusal ws
+  unfolding sheetAnswer answerFor
+  answer-refusal room answer is = ap printedRefusal is ∙ go (sheetRefusal ws) (leb (length (sheetText ws)) room)
+    where
+      go : (n : ℕ) (fits : Bool)
+          → printedRefusal (accepted n (cond fits (Written (length (sheetText ws))) (TooSmall (length (sheetText ws)))) (Refused n)) ≡ n
+      go zero true = refl
+      go zero false = refl
+      go (suc n) fits = refl
 
   -- the sheet of a sound book fits the room that is named for it
   pub sheet-fits : sound ws ≡ true → length (sheetText ws) ≤ sheetRoom

@@ -7,11 +7,17 @@ use lib.ListN.{length, drop}
 use Rattle.report.specs.declared.printing.Printed.{Printed}
 use Rattle.report.specs.declared.printing.Printed.the-variants.{Written, TooSmall, Refused}
 
--- document 01's number of an answer: a text that is written, or would be in a longer buffer, is not refused
+-- document 01's number of an answer, 0 where nothing is refused, and how many bytes of text are written. Document 01 has no
+-- number for a buffer that is too small
 abbrev pub printedRefusal : Printed → ℕ
 printedRefusal (Written n) = 0
 printedRefusal (TooSmall n) = 0
 printedRefusal (Refused number) = number
+
+abbrev pub printedLength : Printed → ℕ
+printedLength (Written n) = n
+printedLength (TooSmall n) = 0
+printedLength (Refused number) = 0
 
 -- the answer where a text is to stand in a buffer of `room` bytes: its length, and whether it is written
 unfoldable pub answerFor : List ℕ → ℕ → Printed

@@ -6,8 +6,8 @@ ghost use lib.ListN.{length};
 ghost use lib.Seq.{sets};
 ghost use Rattle.book_words.specs.Measures.{isChain};
 ghost use Rattle.book_words.specs.Soundness.{sound};
-ghost use Rattle.report.specs.Printing.{answerFor, bufferWith};
-ghost use Rattle.report.specs.Sheet.{chainLine, chainLines, sheetText, sheetRoom, sheetAnswer, sheetBuffer};
+ghost use Rattle.report.specs.Printing.{printedRefusal, answerFor, bufferWith};
+ghost use Rattle.report.specs.Sheet.{chainLine, chainLines, sheetText, sheetRoom, sheetRefusal, sheetAnswer, sheetBuffer};
 use crate::chains;
 use crate::printing;
 use crate::printing::Printed;
@@ -19,6 +19,7 @@ pub const SHEET_ROOM: usize = 18_993;
 // Prints the sheet of a book of any words.
 pub fn sheet(book: &[u64], out: &mut [u8]) -> Printed
     ensures { λ r. ⌜ r ≡ sheetAnswer (now (book .entry)) (length (now (out .entry))) ⌝ }
+    ensures { λ r. ⌜ printedRefusal r ≡ sheetRefusal (now (book .entry)) ⌝ }
     ensures { λ _. ⌜ now (out .exit) ≡ sheetBuffer (now (book .entry)) (now (out .entry)) ⌝ }
 {
     if !book_words::is_sound(book) {
@@ -31,6 +32,7 @@ pub fn sheet(book: &[u64], out: &mut [u8]) -> Printed
 pub fn sheet_sound(book: &[u64], out: &mut [u8]) -> Printed
     requires { ⌜ sound (now book) ≡ true ⌝ }
     ensures { λ r. ⌜ r ≡ sheetAnswer (now (book .entry)) (length (now (out .entry))) ⌝ }
+    ensures { λ r. ⌜ printedRefusal r ≡ sheetRefusal (now (book .entry)) ⌝ }
     ensures { λ _. ⌜ now (out .exit) ≡ sheetBuffer (now (book .entry)) (now (out .entry)) ⌝ }
 {
     if SHEET_ROOM <= out.len() {

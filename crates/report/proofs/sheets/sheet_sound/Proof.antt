@@ -4,7 +4,7 @@ use mathlib.Core.Path.{_∙_, sym}
 use borrow.Author.Needs.{needs}
 use lib.ListN.{length}
 use Rattle.report.specs.Sheet.{sheetText}
-use Rattle.report.proofs.Laws.{sheet-answered, sheet-printed, sheet-fits, stored-printed}
+use Rattle.report.proofs.Laws.{sheet-answered, sheet-printed, answer-refusal, sheet-fits, stored-printed}
 use Rattle.report.proofs.sheets.sheet_sound.Statement.{statement}
 use Rattle.report.proofs.sheets.sheet_sound.Tie as tie
 
@@ -22,7 +22,8 @@ returns c =
     let out = start .args .out .now in
     let room = c .before .before .before .before .if1 .taken in
     let done = stored-printed (sheetText book) out (write .last .1 .0) (write .result) (omega (arith, room, sheet-fits book (start .pre))) (write .ensures .0) (write .ensures .1) in
-    (done .0 ∙ sym (sheet-answered book (length out) (start .pre)), done .1 ∙ sym (sheet-printed book out (start .pre)))
+    let answered = done .0 ∙ sym (sheet-answered book (length out) (start .pre)) in
+    (answered, (answer-refusal book (length out) _ answered, done .1 ∙ sym (sheet-printed book out (start .pre))))
 
 print-within-requires : tie.Need-print-within-requires
 print-within-requires c κs = search needs
@@ -36,7 +37,8 @@ returns-2 c =
     let within = c .before .before .print-within in
     let book = start .args .book .now in
     let out = start .args .out .now in
-    (within .ensures .0 ∙ sym (sheet-answered book (length out) (start .pre)), within .ensures .1 ∙ sym (sheet-printed book out (start .pre)))
+    let answered = within .ensures .0 ∙ sym (sheet-answered book (length out) (start .pre)) in
+    (answered, (answer-refusal book (length out) _ answered, within .ensures .1 ∙ sym (sheet-printed book out (start .pre))))
 
 pub sheet-sound-spec : {M : Type 1} → statement M
 sheet-sound-spec =
