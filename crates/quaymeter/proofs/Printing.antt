@@ -2,7 +2,7 @@
 use Prim.Native.Nat.{ℕ, _≤_}
 use native.Mathlib.Omega.{arith}
 use mathlib.Core.Bool.{true}
-use mathlib.Core.List.{List}
+use mathlib.Core.List.{List, _++_}
 use mathlib.Core.Path.{_≡_, refl, sym, _∙_, ap}
 use lib.ListN.{length, length-append, take, drop}
 use lib.Seq.{take-append-seam}
@@ -46,20 +46,25 @@ pub printed-fits : (words file : List ℕ) → length (printedFrom words file) �
 unfolding printedFrom
 printed-fits words file = fits-for (loadAnswer words file) (loadBook words file) (loaded-sound words file)
 
--- and the first bytes of the buffer, as many as it is long, are it
-pub record Whole (text out : List ℕ) (count : ℕ) : Type 0 where
+-- and the buffer begins with it
+pub printed-front : (words file buffer out : List ℕ) (count : ℕ) → length buffer ≡ sheetRoom → count ≡ length (printedFrom words file)
+    → out ≡ bufferWith (printedFrom words file) buffer → out ≡ printedFrom words file ++ drop count buffer
+printed-front words file buffer out count room counted is =
+    is
+    ∙ fitting-buffer (printedFrom words file) buffer (omega (arith, room, printed-fits words file))
+    ∙ ap (λ (n : ℕ). printedFrom words file ++ drop n buffer) (sym counted)
+
+-- a text at the front of a buffer is its first bytes, as many as it is long
+pub record Front (text out : List ℕ) (count : ℕ) : Type 0 where
   pub inside : count ≤ length out
   pub counted : count ≡ length (take count out)
   pub is-text : take count out ≡ text
 
-pub printed-whole : (words file buffer out : List ℕ) (count : ℕ) → length buffer ≡ sheetRoom → count ≡ length (printedFrom words file)
-    → out ≡ bufferWith (printedFrom words file) buffer → Whole (printedFrom words file) out count
-printed-whole words file buffer out count room counted is =
-    let text = printedFrom words file in
-    let whole = is ∙ fitting-buffer text buffer (omega (arith, room, printed-fits words file)) in
-    let front : take count out ≡ text = rw (whole, counted) (take-append-seam text (drop (length text) buffer)) in
+pub front-of : (text rest out : List ℕ) (count : ℕ) → count ≡ length text → out ≡ text ++ rest → Front text out count
+front-of text rest out count counted is =
+    let front : take count out ≡ text = rw (is, counted) (take-append-seam text rest) in
     record {
-      inside = omega (arith, counted, ap length whole, length-append text (drop (length text) buffer));
+      inside = omega (arith, counted, ap length is, length-append text rest);
       counted = counted ∙ ap length (sym front);
       is-text = front;
     }

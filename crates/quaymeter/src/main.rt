@@ -1,8 +1,9 @@
 // Reads a file from standard input and prints its sheet, or the line of its refusal, to standard output.
 ghost use mathlib.Core.Bool.{true};
+ghost use mathlib.Core.List.{_++_};
 ghost use mathlib.Core.Path.{_≡_};
 ghost use Prim.Native.Nat.{_<_};
-ghost use lib.ListN.{length};
+ghost use lib.ListN.{length, drop};
 ghost use Rattle.io.specs.Counts.{Counts};
 ghost use Rattle.book_file.specs.Answers.{placeNumbers};
 ghost use Rattle.book_file.specs.File.{mostBytes};
@@ -25,7 +26,7 @@ const INPUT_ROOM: usize = 16_385;
 fn print_sheet(file: &[u8], out: &mut [u8]) -> usize
     requires { ⌜ length (now out) ≡ sheetRoom ⌝ }
     ensures { λ r. ⌜ r ≡ length (printed (now (file .entry))) ⌝ }
-    ensures { λ _. ⌜ now (out .exit) ≡ bufferWith (printed (now (file .entry))) (now (out .entry)) ⌝ }
+    ensures { λ r. ⌜ now (out .exit) ≡ printed (now (file .entry)) ++ drop r (now (out .entry)) ⌝ }
 {
     let mut book = [0u64; book_words::BOOK_LENGTH];
     print_loaded(file, &mut book, out)

@@ -1,13 +1,12 @@
 -- "The program .. prints the heading and one line per used chain, ascending, or `refused` with number, table (0 header) and record
 -- (0)." Assumes nothing.
-use Prim.Native.Nat.{ℕ, zero, suc, _+_, _*_}
+use Prim.Native.Nat.{ℕ, zero, suc}
 use mathlib.Core.Bool.{Bool, cond, not}
 use mathlib.Core.List.{List, [], _∷_, _++_}
 use lib.Dec.{ltb}
 use Rattle.apportion.specs.Grounds.{Ground, firstOf, accepted}
 use Rattle.book.specs.Statements.{elementsOn, statementOf}
 use Rattle.book.specs.declared.replies.Statement.{Statement}
-use Rattle.book_words.specs.Book.{mostElements}
 use Rattle.book_words.specs.Measures.{mostChains}
 use Rattle.book_words.specs.Soundness.{sound}
 use Rattle.report.specs.declared.printing.Printed.{Printed}

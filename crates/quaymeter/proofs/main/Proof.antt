@@ -1,11 +1,8 @@
 -- `quaymeter::main` is safe and ends, and hands on what is to be printed for the bytes that it read. Assumes nothing.
-use Prim.Native.Nat.{ℕ}
 use borrow.Author.Needs.{needs}
-use lib.ListN.{take, replicate, length-replicate}
-use Rattle.book_words.specs.Book.{bookLength}
-use Rattle.report.specs.Sheet.{sheetRoom}
+use lib.ListN.{take}
 use Rattle.quaymeter.specs.Program.{printed}
-use Rattle.quaymeter.proofs.Printing.{Whole, printed-whole}
+use Rattle.quaymeter.proofs.Printing.{Front, front-of}
 use Rattle.quaymeter.proofs.main.Statement.{statement}
 use Rattle.quaymeter.proofs.main.Tie as tie
 
@@ -33,19 +30,18 @@ array-share-prefix-input-2 c = search needs
 slice-aggregate-write-output : tie.Need-slice-aggregate-write-output
 slice-aggregate-write-output c = search needs
 
--- what is to be printed is whole in the buffer
-whole : (c : tie.After-print-sheet) → Whole (printed (take (c .before .before .before .before .read-input .result) (c .before .before .before .before .read-input .last .0))) (c .print-sheet .last .1 .0) (c .print-sheet .result)
-whole c =
-    printed-whole (replicate bookLength 0) _ (replicate sheetRoom 0) (c .print-sheet .last .1 .0) (c .print-sheet .result) (length-replicate {A = ℕ} sheetRoom 0) (c .print-sheet .ensures .0) (c .print-sheet .ensures .1)
+-- what is to be printed is at the front of the buffer
+front : (c : tie.After-print-sheet) → Front (printed (take (c .before .before .before .before .read-input .result) (c .before .before .before .before .read-input .last .0))) (c .print-sheet .last .1 .0) (c .print-sheet .result)
+front c = front-of _ _ (c .print-sheet .last .1 .0) (c .print-sheet .result) (c .print-sheet .ensures .0) (c .print-sheet .ensures .1)
 
 array-share-prefix-out : tie.Need-array-share-prefix-out
-array-share-prefix-out c = whole (c .before .before) .inside
+array-share-prefix-out c = front (c .before .before) .inside
 
 slice-aggregate-write-output-2 : tie.Need-slice-aggregate-write-output-2
-slice-aggregate-write-output-2 c = whole (c .before .before .before) .counted
+slice-aggregate-write-output-2 c = front (c .before .before .before) .counted
 
 write-output-requires : tie.Need-write-output-requires
-write-output-requires c κs = whole (c .before .before .before) .is-text
+write-output-requires c κs = front (c .before .before .before) .is-text
 
 returns : tie.Need-returns
 returns c = search needs
