@@ -1,5 +1,5 @@
-// Appended records: every word of the record is written, and the record is counted. Ground 10 comes before an entry or an
-// element is.
+// Appended records: every word of the record is written, and the record is counted. An entry or an element is appended only
+// where ground 10 does not hold.
 ghost use mathlib.Core.Bool.{true};
 ghost use mathlib.Core.Path.{_≡_};
 ghost use Prim.Native.Nat.{_≤_, _<_, _+_};

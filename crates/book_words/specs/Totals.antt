@@ -72,6 +72,15 @@ abbrev pub sumsOf : List ℕ → Sums
 sumsOf ws =
     record { operation = emitted ws operation; provision = emitted ws provision; activity = activities ws }
 
+-- each of them capped
+abbrev pub capSums : Sums → Sums
+capSums sums =
+    record {
+      operation = capped (sums .operation);
+      provision = capped (sums .provision);
+      activity = capped (sums .activity);
+    }
+
 -- the same sums with one entry more, and with one element more, of which quoted shares are added
 abbrev pub withEntry : Sums → Entry → Sums
 withEntry sums e =
@@ -89,16 +98,7 @@ withElement sums e =
       activity = sums .activity + massActivity e;
     }
 
--- no sum passes its limit of ground 10
+-- no sum passes its limit of ground 10. Of the sums with a record more this is that `passesAmounts` and `passesActivity` do not hold
 abbrev pub withinLimits : Sums → Bool
 withinLimits sums =
     leb (sums .operation) largest && leb (sums .provision) largest && leb (sums .activity) mostActivity
-
--- each of them capped
-abbrev pub capSums : Sums → Sums
-capSums sums =
-    record {
-      operation = capped (sums .operation);
-      provision = capped (sums .provision);
-      activity = capped (sums .activity);
-    }

@@ -1,27 +1,30 @@
 -- What is printed has room, and so is printed whole. Assumes nothing.
-use Prim.Native.Nat.{ℕ, _≤_}
+use Prim.Native.Nat.{ℕ, _≤_, _<_}
 use native.Mathlib.Omega.{arith}
 use mathlib.Core.Bool.{true}
+use borrow.Author.Tests.{lt-ltb, le-ltb}
 use mathlib.Core.List.{List, _++_}
 use mathlib.Core.Path.{_≡_, refl, sym, _∙_, ap}
 use lib.ListN.{length, length-append, take, drop}
 use lib.Seq.{take-append-seam}
-use Rattle.book_file.proofs.Laws.{loaded-sound}
+use Rattle.book_file.proofs.Laws.{loaded-sound, header-stops}
 use Rattle.book_file.specs.Answers.{placeNumbers}
-use Rattle.book_file.specs.Loading.{loadAnswer, loadBook}
+use Rattle.book_file.specs.File.{mostBytes, headerLength, headerRefusal, wrongHeader}
+use Rattle.book_file.specs.Loading.{Loading, loadAnswer, loadBook}
 use Rattle.book_file.specs.declared.answers.Load.{Load}
 use Rattle.book_file.specs.declared.answers.Load.the-variants.{Loaded, Stopped}
 use Rattle.book_file.specs.declared.answers.Place.{Place}
+use Rattle.book_words.specs.Book.{bookLength}
 use Rattle.book_words.specs.Soundness.{sound}
 use Rattle.report.proofs.Laws.{sheet-fits, refused-fits, fitting-written, fitting-buffer}
-use Rattle.report.specs.Printing.{printedLength, answerFor, bufferWith}
-use Rattle.report.specs.Sheet.{sheetText, sheetRoom}
+use Rattle.report.specs.Printing.{bytesWritten, answerFor, bufferWith}
+use Rattle.report.specs.Sheet.{sheetText, sheetRoom, refusedText}
 use Rattle.report.specs.declared.printing.Printed.{Printed}
 use Rattle.quaymeter.specs.Program.{refusedLine, textFor, printedFrom}
 
 -- a text that fits is printed whole
-pub whole-length : (text : List ℕ) (room : ℕ) (answer : Printed) → answer ≡ answerFor text room → length text ≤ room → printedLength answer ≡ length text
-whole-length text room answer is h = ap printedLength (is ∙ fitting-written text room h)
+pub whole-length : (text : List ℕ) (room : ℕ) (answer : Printed) → answer ≡ answerFor text room → length text ≤ room → bytesWritten answer ≡ length text
+whole-length text room answer is h = ap bytesWritten (is ∙ fitting-written text room h)
 
 -- the sheet of a book, or the line of a refusal
 fits-for : (answer : Load) (book : List ℕ) → (answer ≡ Loaded → sound book ≡ true) → length (textFor answer book) ≤ sheetRoom
@@ -68,3 +71,15 @@ front-of text rest out count counted is =
       counted = counted ∙ ap length (sym front);
       is-text = front;
     }
+
+-- a file that is too long is refused with 11, whatever its bytes: so what is read of a longer input is refused as the whole is
+eleven : (words file : List ℕ) → bookLength ≤ length words → mostBytes < length file → headerRefusal (length words) file ≡ 11
+unfolding headerRefusal wrongHeader
+eleven words file room long =
+    rw (le-ltb (length words) bookLength room, le-ltb (length file) headerLength (omega (arith, long)), lt-ltb mostBytes (length file) long)
+
+pub too-long : (words file : List ℕ) → bookLength ≤ length words → mostBytes < length file → printedFrom words file ≡ refusedText 11 0 0
+unfolding printedFrom
+too-long words file room long =
+    let n = eleven words file room long in
+    ap (λ (l : Loading). textFor (l .answer) (l .book)) (header-stops words file (λ z. omega (arith, n, z))) ∙ ap (λ (k : ℕ). refusedText k 0 0) n

@@ -9,7 +9,7 @@ ghost use Rattle.book_file.specs.Answers.{placeNumbers};
 ghost use Rattle.book_file.specs.File.{mostBytes};
 ghost use Rattle.book_file.specs.Loading.{loadBook};
 ghost use Rattle.book_words.specs.Soundness.{sound};
-ghost use Rattle.report.specs.Printing.{printedLength, bufferWith};
+ghost use Rattle.report.specs.Printing.{bytesWritten, bufferWith};
 ghost use Rattle.report.specs.Sheet.{sheetText, sheetRoom};
 ghost use Rattle.quaymeter.specs.Program.{refusedLine, printedFrom, printed};
 use book_file::Load;
@@ -19,11 +19,11 @@ use libc::STDIN_FILENO;
 use libc::STDOUT_FILENO;
 use report::Printed;
 
-// One byte more than the longest file: a longer input is seen to be too long, and is refused.
+// One byte more than the longest file, so that a longer input is refused and not cut.
 const INPUT_ROOM: usize = 16_385;
 
-// The whole job, from bytes to bytes: what is printed for a file. Answers its length.
-fn print_sheet(file: &[u8], out: &mut [u8]) -> usize
+// The whole job, from bytes to bytes: puts what is printed for a file at the start of the buffer, and answers its length.
+fn print_file(file: &[u8], out: &mut [u8]) -> usize
     requires { ⌜ length (now out) ≡ sheetRoom ⌝ }
     ensures { λ r. ⌜ r ≡ length (printed (now (file .entry))) ⌝ }
     ensures { λ r. ⌜ now (out .exit) ≡ printed (now (file .entry)) ++ drop r (now (out .entry)) ⌝ }
@@ -63,21 +63,21 @@ fn print_refusal(number: u64, place: Place, out: &mut [u8]) -> usize
     ensures { λ _. ⌜ now (out .exit) ≡ bufferWith (refusedLine (placeNumbers number place)) (now (out .entry)) ⌝ }
 {
     let numbers = book_file::numbers_of(Load::Stopped(number, place));
-    length_of(report::refused(numbers.refusal, numbers.table, numbers.record, out))
+    length_of(report::refusal_line(numbers.refusal, numbers.table, numbers.record, out))
 }
 
 // How many bytes are printed.
-fn length_of(printed: Printed) -> usize
-    ensures { λ r. ⌜ r ≡ printedLength printed ⌝ }
+fn length_of(answer: Printed) -> usize
+    ensures { λ r. ⌜ r ≡ bytesWritten answer ⌝ }
 {
-    match printed {
+    match answer {
         Printed::Written(count) => count,
         Printed::TooSmall(_) => 0,
         Printed::Refused(_) => 0,
     }
 }
 
-// Reads the whole input, or its first bytes where it is longer than any file, into a buffer in which that shows.
+// Reads the input, or its first bytes where it is longer than any file: the buffer has room for the byte that shows it.
 fn read_input(input: &mut [u8]) -> usize
     requires { ⌜ mostBytes < length (now input) ⌝ }
     ensures { λ r. ⌜ Counts r (now (input .exit)) ⌝ }
@@ -101,6 +101,6 @@ fn main() {
     let mut input = [0u8; INPUT_ROOM];
     let mut out = [0u8; report::SHEET_ROOM];
     let got = read_input(&mut input);
-    let count = print_sheet(&input[..got], &mut out);
+    let count = print_file(&input[..got], &mut out);
     write_output(&input[..got], &out[..count]);
 }

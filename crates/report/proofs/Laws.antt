@@ -50,7 +50,16 @@ module _ (ws : List ℕ) where
   pub sheet-fits : sound ws ≡ true → length (sheetText ws) ≤ sheetRoom
   sheet-fits fine = sheet-most ws fine
 
--- so does the line of a refusal
+-- no text is refused
+pub answer-unrefused : (text : List ℕ) (room : ℕ) (answer : Printed) → answer ≡ answerFor text room → printedRefusal answer ≡ 0
+unfolding answerFor
+answer-unrefused text room answer is = ap printedRefusal is ∙ go (leb (length text) room)
+  where
+    go : (fits : Bool) → printedRefusal (cond fits (Written (length text)) (TooSmall (length text))) ≡ 0
+    go true = refl
+    go false = refl
+
+-- the line of a refusal fits too
 pub refused-fits : (number table recordNumber : ℕ) → length (refusedText number table recordNumber) ≤ refusedRoom
 refused-fits number table recordNumber = refused-most number table recordNumber
 

@@ -11,9 +11,7 @@ use borrow.Author.Tests.{ltb-true}
 use lib.Dec.{ltb}
 use lib.ListN.{length, getD, drop, set, length-append, drop-of-length-le}
 use lib.Seq.{sets, drop-cons, length-sets}
-use Rattle.apportion.specs.Dividing.{largest}
-use Rattle.apportion.specs.Places.{sumBelow, countBelow}
-use Rattle.apportion.proofs.Sums.{count-most}
+use Rattle.apportion.specs.Places.{sumBelow}
 use Rattle.book.specs.Statements.{elementsOn, waitingOn, sharesOn, statementOf}
 use Rattle.book.proofs.Walking.{Walked, walked-most, walked-fits}
 use Rattle.book_words.specs.Book.{elements}
@@ -23,10 +21,14 @@ use Rattle.book_words.specs.Totals.{operation, provision}
 use Rattle.book_words.proofs.Facts.{sound-counted}
 use Rattle.report.specs.Text.{decimal, spaced, line}
 use Rattle.report.specs.Chains.{NextUsed}
-use Rattle.report.specs.Sheet.{heading, isUsed, chainLine, linesTo, chainLines, sheetText, lineRoom, sheetRoom, refusedWord, refusedText, refusedRoom}
+use Rattle.report.specs.Sheet.{heading, isUsed, chainLine, linesTo, chainLines, sheetText, sheetRoom, refusedWord, refusedText, refusedRoom}
 use Rattle.report.proofs.Decimals.{digits-most, digits-few}
 use Rattle.report.proofs.Stores.{sets-append}
 use Rattle.report.proofs.Used.{elements-by-chain}
+
+-- the most bytes of a chain's line: 5, 3, 3, 19, 19 and 19 digits, five spaces and the newline
+abbrev lineRoom : ℕ
+lineRoom = 74
 
 -- the end of a line whose first i numbers are stored: the others, each behind a space, and the newline
 abbrev pub restOf : List ℕ → ℕ → List ℕ
@@ -120,10 +122,18 @@ module _ (ws : List ℕ) where
     pub ends : end ≡ start + length (linesTo ws (chain - 1))
     pub stored : out ≡ sets out₀ start (linesTo ws (chain - 1))
 
+  -- the next is later, also where it is past the last
+  pub next-later : (after next : ℕ) → after ≤ mostChains → NextUsed ws after next → after < next
+  next-later after next h n =
+      ⊎-elim
+      (λ (e : next ≡ suc mostChains). omega (arith, e, h))
+      (λ (l : next < suc mostChains). n .later (omega (arith, l)))
+      (eq-or-lt-of-le (n .inside))
+
   -- no line stands between two used chains
   lines-between : (after next : ℕ) → after ≤ mostChains → NextUsed ws after next → linesTo ws (next - 1) ≡ linesTo ws after
   lines-between after next h n =
-      let later = n .later h in
+      let later = next-later after next h n in
       lines-skip after (next - 1) (omega arith) (λ chain a b. n .none-between chain a (omega arith))
 
   module _ (out₀ : List ℕ) (start : ℕ) where
@@ -131,7 +141,7 @@ module _ (ws : List ℕ) where
     listed-start chain n =
         let none = lines-between 0 chain (omega arith) n in
         record {
-          some = n .later (omega arith);
+          some = next-later 0 chain (omega arith) n;
           inside = n .inside;
           used = n .used;
           ends = rw none (omega arith);
@@ -142,7 +152,7 @@ module _ (ws : List ℕ) where
     pub listed-next : (chain end next end′ : ℕ) (out out′ : List ℕ) → Listed out₀ start chain end out → chain ≤ mostChains → NextUsed ws chain next
         → end′ ≡ end + length (chainLine ws chain) → out′ ≡ sets out end (chainLine ws chain) → Listed out₀ start next end′ out′
     listed-next chain end next end′ out out′ l h n ends stored =
-        let later = n .later h in
+        let later = next-later chain next h n in
         let lines = lines-between chain next h n ∙ lines-with chain (l .some) (l .used h) in
         record {
           some = omega arith;

@@ -1,10 +1,9 @@
 -- Used chains: what a walk over the elements holds of the next one, and how many elements all chains have. Assumes nothing.
 use Prim.Native.Nat.{ℕ, zero, suc, _+_, _≤_, _<_}
-use native.Mathlib.Numerals.{add-one}
 use native.Mathlib.Omega.{arith}
 use mathlib.Core.Bool.{Bool, true, false, true≢false, cond, _&&_}
 use mathlib.Core.List.{List}
-use mathlib.Core.Path.{_≡_, refl, sym, _∙_, ap}
+use mathlib.Core.Path.{_≡_, refl, sym, _∙_}
 use lib.Dec.{eqb, ltb}
 use borrow.Author.Tests.{lt-ltb, eq-eqb, ne-eqb, ltb-true}
 use Rattle.apportion.specs.Places.{sumBelow, countBelow, oneIf}
@@ -26,7 +25,7 @@ among ws n chain = countBelow n (λ p. ofChain chain (elementAt ws p))
 -- after the first n elements: the next chain that one of them is on
 pub record Seen (ws : List ℕ) (after n next : ℕ) : Type 0 where
   pub inside : next ≤ suc mostChains
-  pub later : after ≤ mostChains → after < next
+  pub later : next ≤ mostChains → after < next
   pub met : next ≤ mostChains → 0 < among ws n next
   pub none-between : (chain : ℕ) → after < chain → chain < next → among ws n chain ≡ 0
 

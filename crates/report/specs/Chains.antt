@@ -9,6 +9,6 @@ use Rattle.report.specs.Sheet.{isUsed}
 -- the first used chain after this one, or one past the last where there is none
 pub record NextUsed (ws : List ℕ) (after next : ℕ) : Type 0 where
   pub inside : next ≤ suc mostChains
-  pub later : after ≤ mostChains → after < next
+  pub later : next ≤ mostChains → after < next
   pub used : next ≤ mostChains → isUsed ws next ≡ true
   pub none-between : (chain : ℕ) → after < chain → chain < next → isUsed ws chain ≡ false

@@ -14,10 +14,10 @@ printedRefusal (Written n) = 0
 printedRefusal (TooSmall n) = 0
 printedRefusal (Refused number) = number
 
-abbrev pub printedLength : Printed → ℕ
-printedLength (Written n) = n
-printedLength (TooSmall n) = 0
-printedLength (Refused number) = 0
+abbrev pub bytesWritten : Printed → ℕ
+bytesWritten (Written n) = n
+bytesWritten (TooSmall n) = 0
+bytesWritten (Refused number) = 0
 
 -- the answer where a text is to stand in a buffer of `room` bytes: its length, and whether it is written
 unfoldable pub answerFor : List ℕ → ℕ → Printed

@@ -27,7 +27,7 @@ heading =
     ∷ 111 ∷ 112 ∷ 101 ∷ 114 ∷ 97 ∷ 116 ∷ 105 ∷ 111 ∷ 110 ∷ 32
     -- "provision "
     ∷ 112 ∷ 114 ∷ 111 ∷ 118 ∷ 105 ∷ 115 ∷ 105 ∷ 111 ∷ 110 ∷ 32
-    -- "total"
+    -- "total" and the newline
     ∷ 116 ∷ 111 ∷ 116 ∷ 97 ∷ 108 ∷ 10 ∷ []
 
 -- a used chain has an element
@@ -55,9 +55,6 @@ unfoldable pub sheetText : List ℕ → List ℕ
 sheetText ws = heading ++ chainLines ws
 
 -- the most bytes of it: the heading's 49, and 74 for each of at most 256 lines
-abbrev pub lineRoom : ℕ
-lineRoom = 74
-
 abbrev pub sheetRoom : ℕ
 sheetRoom = 18_993
 

@@ -6,7 +6,7 @@ mod sheets;
 mod text;
 
 pub use printing::Printed;
-pub use refusals::refused;
+pub use refusals::refusal_line;
 pub use sheets::SHEET_ROOM;
 pub use sheets::sheet;
 pub use sheets::sheet_sound;

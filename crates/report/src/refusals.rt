@@ -2,7 +2,7 @@
 ghost use mathlib.Core.Path.{_≡_};
 ghost use lib.ListN.{length};
 ghost use lib.Seq.{sets};
-ghost use Rattle.report.specs.Printing.{answerFor, bufferWith};
+ghost use Rattle.report.specs.Printing.{printedRefusal, answerFor, bufferWith};
 ghost use Rattle.report.specs.Sheet.{refusedText, refusedRoom};
 use crate::printing;
 use crate::printing::Printed;
@@ -12,8 +12,9 @@ use crate::text;
 const ROOM: usize = 71;
 
 // Prints the line of a refusal: its number, table and record.
-pub fn refused(number: u64, table: u64, record: u64, out: &mut [u8]) -> Printed
+pub fn refusal_line(number: u64, table: u64, record: u64, out: &mut [u8]) -> Printed
     ensures { λ r. ⌜ r ≡ answerFor (refusedText number table «record») (length (now (out .entry))) ⌝ }
+    ensures { λ r. ⌜ printedRefusal r ≡ 0 ⌝ }
     ensures { λ _. ⌜ now (out .exit) ≡ bufferWith (refusedText number table «record») (now (out .entry)) ⌝ }
 {
     let mut room = [0u8; ROOM];

@@ -1,5 +1,5 @@
-// Text put into a buffer at a position: bytes, numbers in decimal, and lines of numbers. Each function answers the position
-// behind what it put.
+// Text put into a buffer at a position: bytes, numbers in decimal, and lines of numbers. What puts answers the position behind
+// what it put.
 ghost use mathlib.Core.Path.{_≡_};
 ghost use Prim.Native.Nat.{_+_, _≤_};
 ghost use lib.ListN.{length};
@@ -33,7 +33,7 @@ fn digit_count(number: u64) -> usize
     count
 }
 
-// Puts a number in decimal, the last digit first.
+// Puts a number in decimal; its digits are stored from the last to the first.
 fn put_number(number: u64, out: &mut [u8], at: usize) -> usize
     requires { ⌜ at + length (decimal number) ≤ length (now out) ⌝ }
     ensures { λ r. ⌜ r ≡ at + length (decimal number) ⌝ }

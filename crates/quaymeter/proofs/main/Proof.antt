@@ -1,4 +1,4 @@
--- `quaymeter::main` is safe and ends, and hands on what is to be printed for the bytes that it read. Assumes nothing.
+-- `quaymeter::main` is safe and ends, and hands on what is to be printed for the bytes that it gives as the file. Assumes nothing.
 use borrow.Author.Needs.{needs}
 use lib.ListN.{take}
 use Rattle.quaymeter.specs.Program.{printed}
@@ -15,14 +15,14 @@ read-input-requires c κs = search needs
 array-share-prefix-input : tie.Need-array-share-prefix-input
 array-share-prefix-input c = search needs
 
-slice-aggregate-print-sheet : tie.Need-slice-aggregate-print-sheet
-slice-aggregate-print-sheet c = search needs
+slice-aggregate-print-file : tie.Need-slice-aggregate-print-file
+slice-aggregate-print-file c = search needs
 
-slice-aggregate-print-sheet-2 : tie.Need-slice-aggregate-print-sheet-2
-slice-aggregate-print-sheet-2 c = search needs
+slice-aggregate-print-file-2 : tie.Need-slice-aggregate-print-file-2
+slice-aggregate-print-file-2 c = search needs
 
-print-sheet-requires : tie.Need-print-sheet-requires
-print-sheet-requires c κs = search needs
+print-file-requires : tie.Need-print-file-requires
+print-file-requires c κs = search needs
 
 array-share-prefix-input-2 : tie.Need-array-share-prefix-input-2
 array-share-prefix-input-2 c = search needs
@@ -31,8 +31,8 @@ slice-aggregate-write-output : tie.Need-slice-aggregate-write-output
 slice-aggregate-write-output c = search needs
 
 -- what is to be printed is at the front of the buffer
-front : (c : tie.After-print-sheet) → Front (printed (take (c .before .before .before .before .read-input .result) (c .before .before .before .before .read-input .last .0))) (c .print-sheet .last .1 .0) (c .print-sheet .result)
-front c = front-of _ _ (c .print-sheet .last .1 .0) (c .print-sheet .result) (c .print-sheet .ensures .0) (c .print-sheet .ensures .1)
+front : (c : tie.After-print-file) → Front (printed (take (c .before .before .before .before .read-input .result) (c .before .before .before .before .read-input .last .0))) (c .print-file .last .1 .0) (c .print-file .result)
+front c = front-of _ _ (c .print-file .last .1 .0) (c .print-file .result) (c .print-file .ensures .0) (c .print-file .ensures .1)
 
 array-share-prefix-out : tie.Need-array-share-prefix-out
 array-share-prefix-out c = front (c .before .before) .inside
@@ -53,9 +53,9 @@ main-spec =
     slice-aggregate-read-input
     read-input-requires
     array-share-prefix-input
-    slice-aggregate-print-sheet
-    slice-aggregate-print-sheet-2
-    print-sheet-requires
+    slice-aggregate-print-file
+    slice-aggregate-print-file-2
+    print-file-requires
     array-share-prefix-input-2
     slice-aggregate-write-output
     array-share-prefix-out

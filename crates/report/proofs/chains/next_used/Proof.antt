@@ -2,9 +2,6 @@
 use Prim.Native.Nat.{_-_, _≤_}
 use native.Mathlib.Omega.{arith}
 use mathlib.Core.Logic.{⊎-elim}
-use mathlib.Core.Path.{_≡_}
-use borrow.Author.Needs.{needs}
-use Rattle.book_words.specs.Book.{elements}
 use Rattle.book_words.proofs.Facts.{sound-counted}
 use Rattle.report.proofs.Used.{Seen, seen-start, seen-nearer, seen-other, seen-all}
 use Rattle.report.proofs.chains.next_used.Statement.{statement}

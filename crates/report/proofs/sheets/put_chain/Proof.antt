@@ -7,7 +7,6 @@ use borrow.Author.Needs.{needs}
 use lib.ListN.{length}
 use lib.Seq.{sets, length-sets}
 use Rattle.book.proofs.Laws.{statement-accepted}
-use Rattle.book.specs.Statements.{statementOf}
 use Rattle.book.specs.declared.replies.Statement.{Statement}
 use Rattle.report.specs.Sheet.{statementNumbers, chainLine}
 use Rattle.report.specs.Text.{line}

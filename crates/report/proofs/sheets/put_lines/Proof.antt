@@ -10,7 +10,7 @@ use lib.Seq.{length-sets}
 use Rattle.book_words.proofs.Booleans.{and-both}
 use Rattle.report.specs.Sheet.{linesTo}
 use Rattle.book_words.specs.Measures.{mostChains}
-use Rattle.report.proofs.Lines.{Listed, listed-start, listed-next, listed-room, listed-all}
+use Rattle.report.proofs.Lines.{next-later, Listed, listed-start, listed-next, listed-room, listed-all}
 use Rattle.report.proofs.sheets.put_lines.Statement.{statement}
 use Rattle.report.proofs.sheets.put_lines.Tie as tie
 
@@ -39,7 +39,10 @@ next-used-requires-2 : tie.Need-next-used-requires-2 Inv-loop μ-loop
 next-used-requires-2 c κs = search needs
 
 loop-less : tie.Need-loop-less Inv-loop μ-loop
-loop-less c = omega (arith, c .next-used2 .ensures .later (c .before .before .before .before .before .loop-test .taken))
+loop-less c =
+    let start = c .before .before .before .before .before .before .before .before .before .before .args in
+    let head = c .before .before .before .before .before .before in
+    omega (arith, next-later (start .book .now) (head .loop .chain) (c .next-used2 .result) (c .before .before .before .before .before .loop-test .taken) (c .next-used2 .ensures))
 
 loop-again : tie.Need-loop-again Inv-loop μ-loop
 loop-again c =

@@ -1,10 +1,10 @@
--- `quaymeter::print_sheet` meets its contract. Assumes nothing.
+-- `quaymeter::print_file` meets its contract. Assumes nothing.
 use borrow.Author.Needs.{needs}
 use lib.ListN.{replicate}
 use Rattle.book_words.specs.Book.{bookLength}
 use Rattle.quaymeter.proofs.Printing.{printed-front}
-use Rattle.quaymeter.proofs.print_sheet.Statement.{statement}
-use Rattle.quaymeter.proofs.print_sheet.Tie as tie
+use Rattle.quaymeter.proofs.print_file.Statement.{statement}
+use Rattle.quaymeter.proofs.print_file.Tie as tie
 
 slice-aggregate-print-loaded : tie.Need-slice-aggregate-print-loaded
 slice-aggregate-print-loaded c = search needs
@@ -21,6 +21,6 @@ returns c =
     let start = c .before .before .before .before .before .before .before .before in
     (put .ensures .0, printed-front (replicate bookLength 0) (start .args .file .now) (start .args .out .now) (put .last .1 .1 .0) (put .result) (start .pre) (put .ensures .0) (put .ensures .1 .1))
 
-pub print-sheet-spec : {M : Type 1} → statement M
-print-sheet-spec =
+pub print-file-spec : {M : Type 1} → statement M
+print-file-spec =
     tie.close (tie.spec slice-aggregate-print-loaded print-loaded-requires same-length returns)

@@ -1,4 +1,4 @@
--- `report::refusals::refused` meets its contract. Assumes nothing.
+-- `report::refusals::refusal_line` meets its contract. Assumes nothing.
 use Prim.Native.Nat.{ℕ}
 use mathlib.Core.List.{List}
 use mathlib.Core.Path.{_∙_, ap}
@@ -6,10 +6,11 @@ use borrow.Author.Needs.{needs}
 use lib.ListN.{length}
 use Rattle.report.specs.Printing.{answerFor, bufferWith}
 use Rattle.report.specs.Sheet.{refusedText, refusedRoom}
+use Rattle.report.proofs.Laws.{answer-unrefused}
 use Rattle.report.proofs.Lines.{refused-most}
 use Rattle.report.proofs.Stores.{InRoom, in-room}
-use Rattle.report.proofs.refusals.refused.Statement.{statement}
-use Rattle.report.proofs.refusals.refused.Tie as tie
+use Rattle.report.proofs.refusals.refusal_line.Statement.{statement}
+use Rattle.report.proofs.refusals.refusal_line.Tie as tie
 
 slice-aggregate-write-refused : tie.Need-slice-aggregate-write-refused
 slice-aggregate-write-refused c = search needs
@@ -41,10 +42,11 @@ returns c =
     let over = c .before .before .hand-over in
     let out = c .before .before .before .before .before .before .before .before .before .args .out .now in
     let text = written (c .before .before .before .before .before .before) .is-text in
-    (over .ensures .0 ∙ ap (λ (t : List ℕ). answerFor t (length out)) text, over .ensures .1 ∙ ap (λ (t : List ℕ). bufferWith t out) text)
+    let answered = over .ensures .0 ∙ ap (λ (t : List ℕ). answerFor t (length out)) text in
+    (answered, (answer-unrefused _ (length out) _ answered, over .ensures .1 ∙ ap (λ (t : List ℕ). bufferWith t out) text))
 
-pub refused-spec : {M : Type 1} → statement M
-refused-spec =
+pub refusal-line-spec : {M : Type 1} → statement M
+refusal-line-spec =
     tie.close
     (tie.spec
     slice-aggregate-write-refused
