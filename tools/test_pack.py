@@ -18,6 +18,7 @@ from sheet import sheet
 
 TOOLS = os.path.dirname(os.path.abspath(__file__))
 EXAMPLES = os.path.join(os.path.dirname(TOOLS), "examples")
+PROGRAM = os.path.join(os.path.dirname(TOOLS), "crates", "quaymeter")
 
 LARGEST_U32 = 2 ** 32 - 1
 LARGEST = 2 ** 64 - 1
@@ -197,7 +198,14 @@ def examples():
     data = packed_example("document.txt")
     check(data == EXAMPLE, "document 01's example")
     check(sheet(data) == sheet_checks.SHEET_OF_EXAMPLE, "its sheet")
+    check(stored("stdin") == data, "the program's stored input")
+    check(stored("stdout") == sheet(data), "its stored output")
     voyage(packed_example("voyage.txt"))
+
+
+def stored(name):
+    with open(os.path.join(PROGRAM, name), "rb") as file:
+        return file.read()
 
 
 def packed_example(name):
