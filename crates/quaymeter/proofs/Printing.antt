@@ -5,8 +5,7 @@ use mathlib.Core.Bool.{true}
 use borrow.Author.Tests.{lt-ltb, le-ltb}
 use mathlib.Core.List.{List, _++_}
 use mathlib.Core.Path.{_≡_, refl, sym, _∙_, ap}
-use lib.ListN.{length, length-append, take, drop}
-use lib.Seq.{take-append-seam}
+use lib.ListN.{length, drop}
 use Rattle.book_file.proofs.Laws.{loaded-sound, header-stops}
 use Rattle.book_file.specs.Answers.{placeNumbers}
 use Rattle.book_file.specs.File.{mostBytes, headerLength, headerRefusal, wrongHeader}
@@ -56,21 +55,6 @@ printed-front words file buffer out count room counted is =
     is
     ∙ fitting-buffer (printedFrom words file) buffer (omega (arith, room, printed-fits words file))
     ∙ ap (λ (n : ℕ). printedFrom words file ++ drop n buffer) (sym counted)
-
--- a text at the front of a buffer is its first bytes, as many as it is long
-pub record Front (text out : List ℕ) (count : ℕ) : Type 0 where
-  pub inside : count ≤ length out
-  pub counted : count ≡ length (take count out)
-  pub is-text : take count out ≡ text
-
-pub front-of : (text rest out : List ℕ) (count : ℕ) → count ≡ length text → out ≡ text ++ rest → Front text out count
-front-of text rest out count counted is =
-    let front : take count out ≡ text = rw (is, counted) (take-append-seam text rest) in
-    record {
-      inside = omega (arith, counted, ap length is, length-append text rest);
-      counted = counted ∙ ap length (sym front);
-      is-text = front;
-    }
 
 -- a file that is too long is refused with 11, whatever its bytes: so what is read of a longer input is refused as the whole is
 eleven : (words file : List ℕ) → bookLength ≤ length words → mostBytes < length file → headerRefusal (length words) file ≡ 11

@@ -14,8 +14,18 @@ use Rattle.book_words.specs.Soundness.{sound}
 use Rattle.report.specs.declared.printing.Printed.{Printed}
 use Rattle.report.specs.declared.printing.Printed.the-variants.{Written, TooSmall, Refused}
 use Rattle.report.specs.Printing.{printedRefusal, answerFor, bufferWith}
-use Rattle.report.specs.Sheet.{sheetText, sheetRoom, sheetRefusal, sheetAnswer, sheetBuffer, refusedText, refusedRoom}
-use Rattle.report.proofs.Lines.{sheet-most, refused-most}
+use Rattle.report.specs.Sheet.{sheetText, sheetRefusal, sheetAnswer, sheetBuffer}
+pub use Rattle.report.proofs.Lines.{sheet-fits, refused-fits}
+pub use Rattle.report.proofs.Stores.{Front, front-of}
+
+-- no text is refused
+pub answer-unrefused : (text : List ℕ) (room : ℕ) (answer : Printed) → answer ≡ answerFor text room → printedRefusal answer ≡ 0
+unfolding answerFor
+answer-unrefused text room answer is = ap printedRefusal is ∙ go (leb (length text) room)
+  where
+    go : (fits : Bool) → printedRefusal (cond fits (Written (length text)) (TooSmall (length text))) ≡ 0
+    go true = refl
+    go false = refl
 
 module _ (ws : List ℕ) where
   -- the sheet of a sound book is printed, and that of another refused
@@ -37,31 +47,12 @@ module _ (ws : List ℕ) where
 
   -- document 01's number of the answer is that of the first ground
   pub answer-refusal : (room : ℕ) (answer : Printed) → answer ≡ sheetAnswer ws room → printedRefusal answer ≡ sheetRefusal ws
-  unfolding sheetAnswer answerFor
-  answer-refusal room answer is = ap printedRefusal is ∙ go (sheetRefusal ws) (leb (length (sheetText ws)) room)
+  unfolding sheetAnswer
+  answer-refusal room answer is = ap printedRefusal is ∙ go (sheetRefusal ws)
     where
-      go : (n : ℕ) (fits : Bool)
-          → printedRefusal (accepted n (cond fits (Written (length (sheetText ws))) (TooSmall (length (sheetText ws)))) (Refused n)) ≡ n
-      go zero true = refl
-      go zero false = refl
-      go (suc n) fits = refl
-
-  -- the sheet of a sound book fits the room that is named for it
-  pub sheet-fits : sound ws ≡ true → length (sheetText ws) ≤ sheetRoom
-  sheet-fits fine = sheet-most ws fine
-
--- no text is refused
-pub answer-unrefused : (text : List ℕ) (room : ℕ) (answer : Printed) → answer ≡ answerFor text room → printedRefusal answer ≡ 0
-unfolding answerFor
-answer-unrefused text room answer is = ap printedRefusal is ∙ go (leb (length text) room)
-  where
-    go : (fits : Bool) → printedRefusal (cond fits (Written (length text)) (TooSmall (length text))) ≡ 0
-    go true = refl
-    go false = refl
-
--- the line of a refusal fits too
-pub refused-fits : (number table recordNumber : ℕ) → length (refusedText number table recordNumber) ≤ refusedRoom
-refused-fits number table recordNumber = refused-most number table recordNumber
+      go : (n : ℕ) → printedRefusal (accepted n (answerFor (sheetText ws) room) (Refused n)) ≡ n
+      go zero = answer-unrefused (sheetText ws) room (answerFor (sheetText ws) room) refl
+      go (suc n) = refl
 
 -- a text that fits is written whole, and the bytes past it stay as they were
 pub fitting-written : (text : List ℕ) (room : ℕ) → length text ≤ room → answerFor text room ≡ Written (length text)

@@ -78,9 +78,9 @@ unfolding line
 line-of-two f a b = simp length-append (omega arith)
 
 -- so the line of a refusal has room
-pub refused-most : (number table recordNumber : ℕ) → length (refusedText number table recordNumber) ≤ refusedRoom
+pub refused-fits : (number table recordNumber : ℕ) → length (refusedText number table recordNumber) ≤ refusedRoom
 unfolding refusedText refusedWord
-refused-most number table recordNumber =
+refused-fits number table recordNumber =
     omega (
       arith,
       length-append refusedWord (line number (table ∷ recordNumber ∷ [])),
@@ -236,8 +236,8 @@ module _ (ws : List ℕ) where
     unfolding heading
     room-for n h few = omega (arith, length-append heading (linesTo ws n), lines-most n h, few)
 
-    pub sheet-most : length (sheetText ws) ≤ sheetRoom
+    pub sheet-fits : length (sheetText ws) ≤ sheetRoom
     unfolding sheetText chainLines
-    sheet-most =
+    sheet-fits =
         let all : (k : ℕ) → k ≡ elements ws → k ≤ 256 = λ k e. omega (arith, e, sound-counted ws fine) in
         room-for mostChains (le-refl mostChains) (all _ (elements-by-chain ws fine))

@@ -6,7 +6,7 @@ use native.Mathlib.Omega.{arith}
 use mathlib.Core.Path.{_≡_, refl, sym, _∙_, ap}
 use mathlib.Core.List.{List, [], _∷_, _++_}
 use lib.ListN.{length, getD, take, drop, set, replicate, length-append, length-replicate, drop-of-length-le}
-use lib.Seq.{sets, sets-eq, length-sets, set-comm, drop-cons, take-append-seam}
+use lib.Seq.{sets, sets-eq, set-comm, drop-cons, take-append-seam}
 
 -- two texts, the second behind the first
 pub sets-append : (s t out : List ℕ) (i : ℕ) → sets out i (s ++ t) ≡ sets (sets out i s) (i + length s) t
@@ -37,20 +37,24 @@ then-stored s t out between after i j one end two last = (
   rw (two, one, end) (sym (sets-append s t out 0)),
 )
 
--- a text that is stored at the front of an array of zeros is its first part
-pub record InRoom (text array : List ℕ) (count : ℕ) : Type 0 where
-  pub inside : count ≤ length array
-  pub counted : count ≡ length (take count array)
-  pub is-text : take count array ≡ text
+-- a text at the front of a buffer is its first bytes, as many as it is long
+pub record Front (text out : List ℕ) (count : ℕ) : Type 0 where
+  pub inside : count ≤ length out
+  pub counted : count ≡ length (take count out)
+  pub is-text : take count out ≡ text
 
-pub in-room : (room count : ℕ) (text array : List ℕ) → array ≡ sets (replicate room 0) 0 text → count ≡ length text → length text ≤ room
-    → InRoom text array count
-in-room room count text array stored counted h =
-    let long = length-replicate {A = ℕ} room 0 in
-    let fits : 0 + length text ≤ length (replicate {A = ℕ} room 0) = omega (arith, h, long) in
-    let front : take count array ≡ text = rw (stored, counted, sets-eq text (replicate room 0) 0 fits) (take-append-seam text _) in
+pub front-of : (text rest out : List ℕ) (count : ℕ) → count ≡ length text → out ≡ text ++ rest → Front text out count
+front-of text rest out count counted is =
+    let front : take count out ≡ text = rw (is, counted) (take-append-seam text rest) in
     record {
-      inside = omega (arith, h, counted, ap length stored ∙ length-sets (replicate room 0) 0 text, long);
+      inside = omega (arith, counted, ap length is, length-append text rest);
       counted = counted ∙ ap length (sym front);
       is-text = front;
     }
+
+-- so where it is stored in an array of zeros
+pub in-room : (room count : ℕ) (text array : List ℕ) → array ≡ sets (replicate room 0) 0 text → count ≡ length text → length text ≤ room
+    → Front text array count
+in-room room count text array stored counted h =
+    let fits : 0 + length text ≤ length (replicate {A = ℕ} room 0) = omega (arith, h, length-replicate {A = ℕ} room 0) in
+    front-of text (drop (0 + length text) (replicate room 0)) array count counted (stored ∙ sets-eq text (replicate room 0) 0 fits)

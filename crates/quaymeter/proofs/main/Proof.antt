@@ -2,7 +2,7 @@
 use borrow.Author.Needs.{needs}
 use lib.ListN.{take}
 use Rattle.quaymeter.specs.Program.{printed}
-use Rattle.quaymeter.proofs.Printing.{Front, front-of}
+use Rattle.report.proofs.Laws.{Front, front-of}
 use Rattle.quaymeter.proofs.main.Statement.{statement}
 use Rattle.quaymeter.proofs.main.Tie as tie
 

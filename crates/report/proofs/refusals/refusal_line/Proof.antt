@@ -7,8 +7,8 @@ use lib.ListN.{length}
 use Rattle.report.specs.Printing.{answerFor, bufferWith}
 use Rattle.report.specs.Sheet.{refusedText, refusedRoom}
 use Rattle.report.proofs.Laws.{answer-unrefused}
-use Rattle.report.proofs.Lines.{refused-most}
-use Rattle.report.proofs.Stores.{InRoom, in-room}
+use Rattle.report.proofs.Lines.{refused-fits}
+use Rattle.report.proofs.Stores.{Front, in-room}
 use Rattle.report.proofs.refusals.refusal_line.Statement.{statement}
 use Rattle.report.proofs.refusals.refusal_line.Tie as tie
 
@@ -19,11 +19,11 @@ write-refused-requires : tie.Need-write-refused-requires
 write-refused-requires c κs = search needs
 
 -- the line is in the room
-written : (c : tie.After-write-refused) → InRoom (refusedText (c .before .before .before .args .number) (c .before .before .before .args .table) (c .before .before .before .args .«record»)) (c .write-refused .last .1 .1 .1 .0) (c .write-refused .result)
+written : (c : tie.After-write-refused) → Front (refusedText (c .before .before .before .args .number) (c .before .before .before .args .table) (c .before .before .before .args .«record»)) (c .write-refused .last .1 .1 .1 .0) (c .write-refused .result)
 written c =
     let a = c .before .before .before .args in
     in-room refusedRoom _ _ _ (c .write-refused .ensures .1) (c .write-refused .ensures .0)
-    (refused-most (a .number) (a .table) (a .«record»))
+    (refused-fits (a .number) (a .table) (a .«record»))
 
 array-share-prefix-room : tie.Need-array-share-prefix-room
 array-share-prefix-room c = written (c .before) .inside

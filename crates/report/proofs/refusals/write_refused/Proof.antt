@@ -7,7 +7,7 @@ use lib.ListN.{length, length-append}
 use lib.Seq.{length-sets}
 use Rattle.report.specs.Sheet.{refusedWord, refusedText}
 use Rattle.report.specs.Text.{line}
-use Rattle.report.proofs.Lines.{refused-most}
+use Rattle.report.proofs.Lines.{refused-fits}
 use Rattle.report.proofs.Stores.{then-stored}
 use Rattle.report.proofs.refusals.write_refused.Statement.{statement}
 use Rattle.report.proofs.refusals.write_refused.Tie as tie
@@ -33,7 +33,7 @@ put-line-requires c κs =
       put .ensures .0,
       ap length (put .ensures .1) ∙ length-sets (a .out .now) 0 refusedWord,
       length-append refusedWord (line (a .number) (a .table ∷ a .«record» ∷ [])),
-      refused-most (a .number) (a .table) (a .«record»),
+      refused-fits (a .number) (a .table) (a .«record»),
     )
 
 same-length : tie.Need-same-length

@@ -6,8 +6,8 @@ use borrow.Author.Needs.{needs}
 use lib.ListN.{length}
 use Rattle.report.specs.Printing.{answerFor, bufferWith}
 use Rattle.report.specs.Sheet.{sheetText, sheetRoom}
-use Rattle.report.proofs.Lines.{sheet-most}
-use Rattle.report.proofs.Stores.{InRoom, in-room}
+use Rattle.report.proofs.Lines.{sheet-fits}
+use Rattle.report.proofs.Stores.{Front, in-room}
 use Rattle.report.proofs.sheets.print_within.Statement.{statement}
 use Rattle.report.proofs.sheets.print_within.Tie as tie
 
@@ -18,10 +18,10 @@ write-sheet-requires : tie.Need-write-sheet-requires
 write-sheet-requires c κs = search needs
 
 -- the text is in the room
-written : (c : tie.After-write-sheet) → InRoom (sheetText (c .before .before .before .before .args .book .now)) (c .write-sheet .last .1 .0) (c .write-sheet .result)
+written : (c : tie.After-write-sheet) → Front (sheetText (c .before .before .before .before .args .book .now)) (c .write-sheet .last .1 .0) (c .write-sheet .result)
 written c =
     let start = c .before .before .before .before in
-    in-room sheetRoom _ _ _ (c .write-sheet .ensures .1) (c .write-sheet .ensures .0) (sheet-most (start .args .book .now) (start .pre))
+    in-room sheetRoom _ _ _ (c .write-sheet .ensures .1) (c .write-sheet .ensures .0) (sheet-fits (start .args .book .now) (start .pre))
 
 array-share-prefix-room : tie.Need-array-share-prefix-room
 array-share-prefix-room c = written (c .before) .inside

@@ -5,7 +5,7 @@ use borrow.Author.Needs.{needs}
 use lib.ListN.{length, length-append}
 use lib.Seq.{length-sets}
 use Rattle.report.specs.Sheet.{heading, chainLines, sheetText}
-use Rattle.report.proofs.Lines.{sheet-most}
+use Rattle.report.proofs.Lines.{sheet-fits}
 use Rattle.report.proofs.Stores.{then-stored}
 use Rattle.report.proofs.sheets.write_sheet.Statement.{statement}
 use Rattle.report.proofs.sheets.write_sheet.Tie as tie
@@ -28,7 +28,7 @@ put-lines-requires c κs =
         put .ensures .0,
         ap length (put .ensures .1) ∙ length-sets (start .args .out .now) 0 heading,
         length-append heading (chainLines (start .args .book .now)),
-        sheet-most (start .args .book .now) (start .pre .0),
+        sheet-fits (start .args .book .now) (start .pre .0),
       ),
     )
 
