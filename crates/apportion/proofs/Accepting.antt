@@ -1,6 +1,6 @@
 -- What an accepted division has, and that its parts make the shares of the definition. Assumes nothing.
-use mathlib.Core.Path.{_≡_, sym, ap, _∙_}
-use mathlib.Core.Bool.{false, not, _&&_, _||_, and-true}
+use mathlib.Core.Path.{_≡_, refl, sym, ap, _∙_}
+use mathlib.Core.Bool.{false, not, _&&_, and-true}
 use mathlib.Core.Logic.{_⊎_, inl, inr, ⊎-elim}
 use mathlib.Core.List.{List}
 use Prim.Native.Nat.{ℕ, suc, _+_, _≤_, _<_, min}
@@ -10,10 +10,11 @@ use lib.Dec.{ltb, leb, eqb}
 use lib.ListN.{length}
 use borrow.Author.Tests.{lt-ltb, eq-eqb, ne-eqb, ltb-false, eqb-true, not-false}
 use Rattle.apportion.specs.Places.{oneIf, listBelow, at, sumOf}
-use Rattle.apportion.specs.Dividing.{floorAt, remainderAt, leftOver, before, rank, unitFor, unitAt, shareAt, divided, mostPlaces, largest, refusal, sharesAfter}
+use Rattle.apportion.specs.Dividing.{floorAt, remainderAt, leftOver, before, rank, unitFor, unitAt, shareAt}
+use Rattle.apportion.specs.Dividing.{divided, mostPlaces, largest, grounds, refusal, sharesAfter}
 use Rattle.apportion.specs.Products.{Accepted}
 use Rattle.apportion.specs.Serving.{countAtLeast, Bound, withUnits}
-use Rattle.apportion.proofs.Grounds.{first-none, or-none, accepted-new, refused-old}
+use Rattle.apportion.proofs.Grounds.{none-holds, or-none, accepted-new, refused-old}
 use Rattle.apportion.proofs.Sums.{below-or-not, sum-cong, sum-some, count-most}
 use Rattle.apportion.proofs.Lists.{list-length, list-at, list-past, list-cong}
 use Rattle.apportion.proofs.Ranks.{reach-zero, reach-none}
@@ -31,15 +32,13 @@ module _ (pool places slots total : ℕ) where
   pub admitted : refusal pool places slots total ≡ 0 → Admitted pool places slots total
   unfolding refusal
   admitted e =
-      let one = first-none 0 (not (eqb slots places) || ltb mostPlaces places) _ e in
-      let nine = first-none 8 (ltb 0 pool && eqb total 0) _ (one .1) in
-      let ten = first-none 9 (ltb largest pool || ltb largest total) _ (nine .1) in
-      let lengths = or-none (not (eqb slots places)) (ltb mostPlaces places) (one .0) in
-      let sizes = or-none (ltb largest pool) (ltb largest total) (ten .0) in
+      let none = none-holds (grounds pool places slots total) refl e in
+      let lengths = or-none (not (eqb slots places)) (ltb mostPlaces places) (none 1) in
+      let sizes = or-none (ltb largest pool) (ltb largest total) (none 10) in
       record {
         long = eqb-true slots places (not-false (eqb slots places) (lengths .0));
         few = ltb-false mostPlaces places (lengths .1);
-        some = λ ne. positive ne (nine .0) (eq-zero-or-pos total);
+        some = λ ne. positive ne (none 9) (eq-zero-or-pos total);
         pool-within = ltb-false largest pool (sizes .0);
         within = ltb-false largest total (sizes .1);
       }
@@ -121,18 +120,24 @@ module _ (pool : ℕ) (weights : List ℕ) where
       (λ (past : n ≤ k). omega (arith, list-past n (floorAt pool weights) k past))
       (below-or-not k n)
 
--- The calls of a division in their order: what each asks follows from what the one before gave.
-module _ (pool total : ℕ) (weights : List ℕ) (ok : Accepted pool total) (total-is : total ≡ sumOf weights)
-    (left : ℕ) (left-is : left ≡ leftOver pool weights)
-    (given-floors given-remainders : List ℕ) (floors-are : given-floors ≡ floors pool weights) (remainders-are : given-remainders ≡ remainders pool weights) where
+-- The calls of a division in their order: what each asks follows from what the floors gave.
+pub record Floored (pool total : ℕ) (weights : List ℕ) (left : ℕ) (given-floors given-remainders : List ℕ) : Type 0 where
+  pub accepted : Accepted pool total
+  pub total-is : total ≡ sumOf weights
+  pub left-is : left ≡ leftOver pool weights
+  pub floors-are : given-floors ≡ floors pool weights
+  pub remainders-are : given-remainders ≡ remainders pool weights
+
+module _ {pool total : ℕ} {weights : List ℕ} {left : ℕ} {given-floors given-remainders : List ℕ}
+    (f : Floored pool total weights left given-floors given-remainders) where
   some-weight : 0 < sumOf weights
-  some-weight = omega (arith, ok .some)
+  some-weight = omega (arith, f .accepted .some, f .total-is)
 
   pub bound-asked : (0 < total) × (countAtLeast given-remainders total ≤ left) × (left ≤ countAtLeast given-remainders 0)
   bound-asked = (
-    ok .some,
-    rw (remainders-are, total-is, left-is) (none-reach pool weights some-weight),
-    rw (remainders-are, left-is) (all-reach pool weights some-weight),
+    f .accepted .some,
+    rw (f .remainders-are, f .total-is, f .left-is) (none-reach pool weights some-weight),
+    rw (f .remainders-are, f .left-is) (all-reach pool weights some-weight),
   )
 
   pub units-asked : (least : ℕ) → least < total → Bound given-remainders left least
@@ -140,26 +145,30 @@ module _ (pool total : ℕ) (weights : List ℕ) (ok : Accepted pool total) (tot
   units-asked least low bound = (
     bound,
     (
-      omega (arith, ok .within),
+      omega (arith, f .accepted .within),
       (
-        rw (floors-are, remainders-are) (list-length (length weights) (floorAt pool weights) ∙ sym (list-length (length weights) (remainderAt pool weights))),
-        λ k. rw floors-are (floor-small pool weights (ok .pool-within) k),
+        rw (f .floors-are, f .remainders-are)
+            (list-length (length weights) (floorAt pool weights) ∙ sym (list-length (length weights) (remainderAt pool weights))),
+        λ k. rw (f .floors-are) (floor-small pool weights (f .accepted .pool-within) k),
       ),
     ),
   )
 
   pub shares-are : withUnits given-remainders left given-floors ≡ divided pool weights
-  shares-are = rw (remainders-are, left-is, floors-are) (floors-and-units pool weights)
+  shares-are = rw (f .remainders-are, f .left-is, f .floors-are) (floors-and-units pool weights)
 
 -- The whole call, by its capped sum and its number.
-module _ (pool : ℕ) (weights shares : List ℕ) (total number : ℕ) (total-is : total ≡ min (sumOf weights) (suc largest))
-    (number-is : number ≡ refusal pool (length weights) (length shares) total) where
+pub record Reckoned (pool : ℕ) (weights shares : List ℕ) (total number : ℕ) : Type 0 where
+  pub total-is : total ≡ min (sumOf weights) (suc largest)
+  pub number-is : number ≡ refusal pool (length weights) (length shares) total
+
+module _ {pool : ℕ} {weights shares : List ℕ} {total number : ℕ} (r : Reckoned pool weights shares total number) where
   pub number-whole : number ≡ refusal pool (length weights) (length shares) (sumOf weights)
-  number-whole = number-is ∙ rw total-is (refusal-capped pool (length weights) (length shares) (sumOf weights))
+  number-whole = r .number-is ∙ rw (r .total-is) (refusal-capped pool (length weights) (length shares) (sumOf weights))
 
   pub total-whole : number ≡ 0 → total ≡ sumOf weights
   total-whole e =
-      omega (arith, admitted pool (length weights) (length shares) total (sym number-is ∙ e) .within, total-is)
+      omega (arith, admitted pool (length weights) (length shares) total (sym (r .number-is) ∙ e) .within, r .total-is)
 
   pub shares-accepted : number ≡ 0 → divided pool weights ≡ sharesAfter pool weights shares
   unfolding sharesAfter

@@ -23,7 +23,8 @@ pub flooring-start : {pool : ℕ} {weights floors₀ remainders₀ : List ℕ} �
 flooring-start long-f long-r =
     record { passed = omega arith; long = (long-f, long-r); floors-are = refl; remainders-are = refl; left-is = omega arith }
 
-module _ {pool : ℕ} {weights floors₀ remainders₀ floors remainders : List ℕ} {left k : ℕ} (f : Flooring pool weights floors₀ remainders₀ floors remainders left k) where
+module _ {pool : ℕ} {weights floors₀ remainders₀ floors remainders : List ℕ} {left k : ℕ}
+    (f : Flooring pool weights floors₀ remainders₀ floors remainders left k) where
   pub flooring-long : (length floors ≡ length weights) × (length remainders ≡ length weights)
   flooring-long =
       let a = filled-length k (floorAt pool weights) floors₀ (omega (arith, f)) in

@@ -44,14 +44,11 @@ filled k f old = listBelow k f ++ drop k old
 pub filled-length : (k : ℕ) (f : ℕ → ℕ) (old : List ℕ) → k ≤ length old → length (filled k f old) ≡ length old
 filled-length k f old h = omega (arith, length-append (listBelow k f) (drop k old), list-length k f, length-drop k old)
 
-pub filled-more : (k : ℕ) (f : ℕ → ℕ) (old : List ℕ) → k < length old → set (filled k f old) k (f k) ≡ filled (suc k) f old
-filled-more k f old h =
-    rw (drop-cons old k 0 h)
+pub filled-next : (k : ℕ) (f : ℕ → ℕ) (old : List ℕ) → k < length old → set (filled k f old) k (f k) ≡ filled (k + 1) f old
+filled-next k f old h =
+    rw (drop-cons old k 0 h, add-one)
     (set-at (listBelow k f) (getD old k 0) (drop (suc k) old) (f k) k (list-length k f)
     ∙ sym (append-assoc (listBelow k f) (f k ∷ []) (drop (suc k) old)))
-
-pub filled-next : (k : ℕ) (f : ℕ → ℕ) (old : List ℕ) → k < length old → set (filled k f old) k (f k) ≡ filled (k + 1) f old
-filled-next k f old h = rw (filled-more k f old h, add-one)
 
 -- a slice that is filled to its end holds the new numbers alone
 pub filled-whole : (k n : ℕ) (f : ℕ → ℕ) (old : List ℕ) → k ≡ n → length old ≡ n → filled k f old ≡ listBelow n f

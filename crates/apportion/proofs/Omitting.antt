@@ -79,7 +79,8 @@ module _ (keep : ℕ → Bool) where
   list-kept zero f g same = refl
   list-kept (suc n) f g same = go (keep n) refl (list-kept n f g (λ k h. same k (omega arith)))
     where
-      go : (b : Bool) → keep n ≡ b → listBelow (among n) f ≡ keptBelow n keep g → listBelow (among n + oneIf (keep n)) f ≡ keptBelow n keep g ++ cond (keep n) (g n ∷ []) []
+      go : (b : Bool) → keep n ≡ b → listBelow (among n) f ≡ keptBelow n keep g
+          → listBelow (among n + oneIf (keep n)) f ≡ keptBelow n keep g ++ cond (keep n) (g n ∷ []) []
       go true e rest = rw (e, add-one, rest, same n (omega arith) e)
       go false e rest = rw (e, add-zero, rest, append-nil)
 

@@ -4,7 +4,8 @@ use mathlib.Core.Path.{_≡_, refl, ap, _∙_}
 use mathlib.Core.Logic.{⊎-elim}
 use mathlib.Core.List.{List}
 use Prim.Native.Nat.{ℕ, _+_, _*_, _/_, _%_, _^_, _≤_, _<_}
-use native.Mathlib.Nat.{add-zero, div-add-mod', mod-lt, mul-add-div-right, div-eq-of-lt, mul-add-mod-self-right, mod-eq-of-lt, mul-le-mul-left, mul-le-mul-right, le-of-mul-le-mul-right, two-pow-succ}
+use native.Mathlib.Nat.{add-zero, div-add-mod', mod-lt, mul-add-div-right, div-eq-of-lt, mul-add-mod-self-right, mod-eq-of-lt}
+use native.Mathlib.Nat.{mul-le-mul-left, mul-le-mul-right, le-of-mul-le-mul-right, two-pow-succ}
 use native.Mathlib.Decide.{ℕ-discrete}
 use native.Mathlib.Numerals.{add-one}
 use native.Mathlib.Omega.{arith}
@@ -20,13 +21,17 @@ use Rattle.apportion.proofs.Sums.{below-or-not}
 pub pow-next : (bit : ℕ) → 2 ^ (bit + 1) ≡ 2 ^ bit + 2 ^ bit
 pow-next bit = rw add-one (two-pow-succ bit)
 
--- a power of two within 10^18 is below the 60th
-pub bit-small : (bit : ℕ) → 2 ^ bit ≤ largest → bit < 60
-bit-small bit h =
+-- a power of two within a number is below one that is over it
+power-below : (b bit most : ℕ) → 2 ^ b ≤ most → most < 2 ^ bit → b < bit
+power-below b bit most within over =
     ⊎-elim
-    (λ (l : bit < 60). l)
-    (λ (large : 60 ≤ bit). let z : ⊥ = omega (arith, pow-mono large) in absurd z)
-    (below-or-not bit 60)
+    (λ (l : b < bit). l)
+    (λ (large : bit ≤ b). let z : ⊥ = omega (arith, pow-mono large) in absurd z)
+    (below-or-not b bit)
+
+-- one within 10^18 is below the 60th
+pub bit-small : (bit : ℕ) → 2 ^ bit ≤ largest → bit < 60
+bit-small bit h = power-below bit 60 largest h (omega arith)
 
 -- The tables hold the powers below `bit`, and the next one is at hand.
 pub record Making (pool total : ℕ) (quotients remainders : List ℕ) (quotient remainder step bit : ℕ) : Type 0 where
@@ -51,7 +56,8 @@ making-start {pool} {total} long-q long-r some =
       made-less = λ b h. let z : ⊥ = omega arith in absurd z;
     }
 
-module _ {pool total : ℕ} {quotients remainders : List ℕ} {quotient remainder step bit : ℕ} (m : Making pool total quotients remainders quotient remainder step bit) where
+module _ {pool total : ℕ} {quotients remainders : List ℕ} {quotient remainder step bit : ℕ}
+    (m : Making pool total quotients remainders quotient remainder step bit) where
   pub making-small : 0 < total → step ≤ total → quotient ≤ pool
   making-small some h = le-of-mul-le-mul-right {k = total} (omega (arith, m .whole, mul-le-mul-left pool h)) some
 
@@ -87,14 +93,9 @@ module _ {pool total : ℕ} {quotients remainders : List ℕ} {quotient remainde
 
   -- every power within the total is below `bit` when the next one is over the total
   pub making-done : total < step → Powers pool total quotients remainders
-  making-done over = record { long = m .long; whole = λ b h. m .made b (below b h); less = λ b h. m .made-less b (below b h) }
-    where
-      below : (b : ℕ) → 2 ^ b ≤ total → b < bit
-      below b h =
-          ⊎-elim
-          (λ (l : b < bit). l)
-          (λ (large : bit ≤ b). let z : ⊥ = omega (arith, pow-mono large, m .step-is) in absurd z)
-          (below-or-not b bit)
+  making-done over =
+      let below : (b : ℕ) → 2 ^ b ≤ total → b < bit = λ b h. power-below b bit total h (omega (arith, m .step-is)) in
+      record { long = m .long; whole = λ b h. m .made b (below b h); less = λ b h. m .made-less b (below b h) }
 
 -- a quotient and a remainder are those of the number that they make
 pub quotient-is : (total n quotient remainder : ℕ) → quotient * total + remainder ≡ n → remainder < total

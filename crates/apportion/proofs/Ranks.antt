@@ -125,7 +125,8 @@ unit-before n r left j k h =
         (λ i l. one-le (before r i j) (before r i k) (λ e. before-trans r i j k e h))
 
 -- of the places at t the earlier get the units that are left for them, as long as there are units
-equal-units : (r : ℕ → ℕ) (t units m : ℕ) → sumBelow m (λ k. oneIf (eqb (r k) t && ltb (countBelow k (λ j. eqb (r j) t)) units)) ≡ min units (countBelow m (λ j. eqb (r j) t))
+equal-units : (r : ℕ → ℕ) (t units m : ℕ)
+    → sumBelow m (λ k. oneIf (eqb (r k) t && ltb (countBelow k (λ j. eqb (r j) t)) units)) ≡ min units (countBelow m (λ j. eqb (r j) t))
 equal-units r t units zero = omega arith
 equal-units r t units (suc m) = go (eqb (r m) t) refl (ltb (countBelow m (λ j. eqb (r j) t)) units) refl (equal-units r t units m)
   where
@@ -218,6 +219,7 @@ units-sum n r left few =
     search-down zero above = units-by n r left 0 above (omega (arith, reach-zero n r))
     search-down (suc t) above = go (leb left (reach n r (suc t))) refl (search-down t)
       where
-        go : (b : Bool) → leb left (reach n r (suc t)) ≡ b → (reach n r (suc t) ≤ left → sumBelow n (unitFor n r left) ≡ left) → sumBelow n (unitFor n r left) ≡ left
+        go : (b : Bool) → leb left (reach n r (suc t)) ≡ b → (reach n r (suc t) ≤ left → sumBelow n (unitFor n r left) ≡ left)
+            → sumBelow n (unitFor n r left) ≡ left
         go true e lower = units-by n r left (suc t) above (leb-true left (reach n r (suc t)) e)
         go false e lower = lower (omega (arith, leb-false left (reach n r (suc t)) e))

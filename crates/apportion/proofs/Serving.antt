@@ -46,7 +46,8 @@ module _ {remainders : List ℕ} {least left : ℕ} {shares₀ shares : List ℕ
     pub handing-at : at shares k ≡ at shares₀ k
     handing-at = rw (s .shares-are) (filled-at k (served remainders left shares₀) shares₀ (omega (arith, s .long)))
 
-    module _ {equal unit : ℕ} (equal-is : equal ≡ left - countAtLeast remainders (least + 1)) (unit-is : unit ≡ unitBy (at remainders k) least earlier equal) where
+    module _ {equal unit : ℕ} (equal-is : equal ≡ left - countAtLeast remainders (least + 1))
+        (unit-is : unit ≡ unitBy (at remainders k) least earlier equal) where
       unit-here : unit ≡ unitFor (length remainders) (at remainders) left k
       unfolding countAtLeast
       unit-here =
@@ -66,5 +67,5 @@ module _ {remainders : List ℕ} {least left : ℕ} {shares₀ shares : List ℕ
             long = s .long;
             bound = s .bound;
             shares-are = shares-next;
-            earlier-is = counted ∙ ap (λ (m : ℕ). m + oneIf (eqb (at remainders k) least)) (s .earlier-is) ∙ sym (sum-next k (λ j. oneIf (eqb (at remainders j) least)));
+            earlier-is = counted ∙ rw (s .earlier-is) (sym (sum-next k (λ j. oneIf (eqb (at remainders j) least))));
           }

@@ -25,19 +25,12 @@ below-or-not a b =
     (λ (m : (a ≡ b) ⊎ (b < a)). inr (⊎-elim (λ (e : a ≡ b). omega arith) (λ (l : b < a). omega arith) m))
     (order a b)
 
-pub sum-cong : (n : ℕ) (f g : ℕ → ℕ) → ((k : ℕ) → k < n → f k ≡ g k) → sumBelow n f ≡ sumBelow n g
-sum-cong zero f g same = refl
-sum-cong (suc n) f g same =
-    let rest = sum-cong n f g (λ k h. same k (omega arith)) in
-    let last = same n (omega arith) in
-    omega arith
-
 pub sum-le : (n : ℕ) (f g : ℕ → ℕ) → ((k : ℕ) → k < n → f k ≤ g k) → sumBelow n f ≤ sumBelow n g
 sum-le zero f g less = omega arith
-sum-le (suc n) f g less =
-    let rest = sum-le n f g (λ k h. less k (omega arith)) in
-    let last = less n (omega arith) in
-    omega arith
+sum-le (suc n) f g less = omega (arith, sum-le n f g (λ k h. less k (omega arith)), less n (omega arith))
+
+pub sum-cong : (n : ℕ) (f g : ℕ → ℕ) → ((k : ℕ) → k < n → f k ≡ g k) → sumBelow n f ≡ sumBelow n g
+sum-cong n f g same = omega (arith, sum-le n f g (λ k h. omega (arith, same k h)), sum-le n g f (λ k h. omega (arith, same k h)))
 
 -- one place of the first sum is below its place of the second, and none is above
 pub sum-lt : (n : ℕ) (f g : ℕ → ℕ) → ((k : ℕ) → k < n → f k ≤ g k) → (k : ℕ) → k < n → f k < g k → sumBelow n f < sumBelow n g
@@ -45,15 +38,9 @@ sum-lt zero f g less k h one = omega arith
 sum-lt (suc n) f g less k h one =
     ⊎-elim
     (λ (e : suc k ≡ suc n).
-    let rest = sum-le n f g (λ j i. less j (omega arith)) in
     let here : k ≡ n = omega arith in
-    let f-here = ap f here in
-    let g-here = ap g here in
-    omega arith)
-    (λ (l : suc k < suc n).
-    let rest = sum-lt n f g (λ j i. less j (omega arith)) k (omega arith) one in
-    let last = less n (omega arith) in
-    omega arith)
+    omega (arith, sum-le n f g (λ j i. less j (omega arith)), ap f here, ap g here))
+    (λ (l : suc k < suc n). omega (arith, sum-lt n f g (λ j i. less j (omega arith)) k (omega arith) one, less n (omega arith)))
     (eq-or-lt-of-le h)
 
 pub sum-add : (n : ℕ) (f g : ℕ → ℕ) → sumBelow n (λ k. f k + g k) ≡ sumBelow n f + sumBelow n g

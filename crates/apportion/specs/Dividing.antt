@@ -9,7 +9,7 @@ use Prim.Native.Nat.{ℕ, _+_, _-_, _*_, _/_, _%_, _<_}
 use lib.Dec.{ltb, eqb}
 use lib.ListN.{length}
 use Rattle.apportion.specs.Places.{sumBelow, oneIf, countBelow, listBelow, at, sumOf}
-use Rattle.apportion.specs.Grounds.{firstOf, accepted}
+use Rattle.apportion.specs.Grounds.{Ground, firstOf, accepted}
 
 -- "Each gets floor(G×w/T)."
 unfoldable pub floorAt : ℕ → List ℕ → ℕ → ℕ
@@ -63,13 +63,15 @@ largest = 1_000_000_000_000_000_000
 -- "Called by itself the rule refuses .. : with 1 a share slice of another length than the weights or a length over
 -- 256, then with 9 a pool above 0 whose T is 0, then with 10 a pool or T over 10^18." `places` is the number of weights,
 -- `slots` that of the share slice
-unfoldable pub refusal : ℕ → ℕ → ℕ → ℕ → ℕ
-refusal pool places slots T =
-    firstOf
-    ((1, not (eqb slots places) || ltb mostPlaces places)
+abbrev pub grounds : ℕ → ℕ → ℕ → ℕ → List Ground
+grounds pool places slots T =
+    (1, not (eqb slots places) || ltb mostPlaces places)
     ∷ (9, ltb 0 pool && eqb T 0)
     ∷ (10, ltb largest pool || ltb largest T)
-    ∷ [])
+    ∷ []
+
+unfoldable pub refusal : ℕ → ℕ → ℕ → ℕ → ℕ
+refusal pool places slots T = firstOf (grounds pool places slots T)
 
 -- the share slice after the call: a refusal writes no share
 unfoldable pub sharesAfter : ℕ → List ℕ → List ℕ → List ℕ

@@ -3,6 +3,7 @@
 use mathlib.Core.Bool.{Bool, cond}
 use mathlib.Core.List.{List, [], _∷_}
 use Prim.Native.Nat.{ℕ, zero, suc}
+use lib.Dec.{eqb}
 
 -- a refusal number and its condition
 abbrev pub Ground : Type 0
@@ -12,6 +13,17 @@ Ground = ℕ × Bool
 abbrev pub firstOf : List Ground → ℕ
 firstOf [] = 0
 firstOf (g ∷ gs) = cond (g .1) (g .0) (firstOf gs)
+
+-- the grounds before that of this number
+abbrev pub groundsBefore : ℕ → List Ground → List Ground
+groundsBefore number [] = []
+groundsBefore number (g ∷ gs) = cond (eqb number (g .0)) [] (g ∷ groundsBefore number gs)
+
+-- grounds by their numbers and their conditions, in order
+abbrev pub groundsOf : List ℕ → List Bool → List Ground
+groundsOf [] conditions = []
+groundsOf (n ∷ numbers) [] = []
+groundsOf (n ∷ numbers) (c ∷ conditions) = (n, c) ∷ groundsOf numbers conditions
 
 -- what an accepted call (number 0) leaves, and what a refused one leaves
 abbrev pub accepted : {A : Type 0} → ℕ → A → A → A

@@ -1,6 +1,7 @@
 // The dividing rule (document 01): a pool goes to weights by floors, and the units left over go one
 // each to the largest remainders, equal remainders to the earlier place.
 mod floors;
+mod refusing;
 mod units;
 
 ghost use mathlib.Core.Path.{_≡_};
@@ -10,6 +11,7 @@ ghost use Rattle.apportion.specs.Places.{sumOf, listBelow};
 ghost use Rattle.apportion.specs.Dividing.{largest, refusal, remainderAt, divided, sharesAfter};
 ghost use Rattle.apportion.specs.Products.{Accepted};
 use floors::set_floors;
+pub use refusing::first_of;
 use units::add_units;
 use units::least_served;
 
@@ -46,16 +48,10 @@ pub extern "C" fn quaymeter_divide(pool: u64, weights: &[u64], shares: &mut [u64
 fn refusal_number(pool: u64, places: usize, slots: usize, total: u64) -> u64
     ensures { λ r. ⌜ r ≡ refusal pool places slots total ⌝ }
 {
-    if (slots != places) | (places > MOST_PLACES) {
-        return 1;
-    }
-    if (pool > 0) & (total == 0) {
-        return 9;
-    }
-    if (pool > LARGEST) | (total > LARGEST) {
-        return 10;
-    }
-    0
+    let unfit = (slots != places) | (places > MOST_PLACES);
+    let indivisible = (pool > 0) & (total == 0);
+    let too_large = (pool > LARGEST) | (total > LARGEST);
+    first_of(&[1, 9, 10], &[unfit, indivisible, too_large])
 }
 
 // Writes the shares of an accepted division.

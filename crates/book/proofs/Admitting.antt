@@ -1,166 +1,97 @@
 -- Ground 10 by the sums that a record would make. Assumes nothing.
-use mathlib.Core.Bool.{Bool, true, false, not, cond, _&&_, _||_, or-false}
-use mathlib.Core.List.{List}
-use mathlib.Core.Logic.{⊎-elim}
+use mathlib.Core.Bool.{Bool, true, false, not, cond}
+use mathlib.Core.List.{List, [], _∷_}
 use mathlib.Core.Path.{_≡_, refl, sym, ap, _∙_}
-use Prim.Native.Nat.{ℕ, _≤_, _<_, _+_, _*_, suc}
-use native.Mathlib.Nat.{add-zero}
+use Prim.Native.Nat.{ℕ, _+_}
 use native.Mathlib.Omega.{arith}
-use lib.Dec.{leb, ltb, eqb}
-use borrow.Author.Tests.{le-leb, lt-leb, le-ltb, lt-ltb, not-true, not-false}
-use Rattle.apportion.specs.Dividing.{largest}
-use Rattle.apportion.specs.Grounds.{accepted}
-use Rattle.book_words.specs.Book.{entries, addEntry, elements, addElement}
+use borrow.Author.Tests.{not-true, not-false}
+use Rattle.apportion.specs.Grounds.{accepted, Ground, firstOf, groundsBefore}
 use Rattle.book_words.specs.Measures.{massActivity}
-use Rattle.book_words.specs.Soundness.{sound}
-use Rattle.book_words.specs.Totals.{operation, provision, emitted, activities, mostActivity, passesAmounts, passesActivity, capped, sumsOf, withEntry, withElement, withinLimits, capSums}
-use Rattle.book_words.specs.declared.records.Element.{Element}
-use Rattle.book_words.specs.declared.records.Entry.{Entry}
+use Rattle.book_words.specs.Totals.{capped, sumsOf, withEntry, withElement, withinLimits, passesLimits, capSums}
 use Rattle.book_words.specs.declared.totals.Sums.{Sums}
+use Rattle.book.specs.declared.arguments.PostArguments.{PostArguments}
+use Rattle.book.specs.declared.arguments.QuoteArguments.{QuoteArguments}
 use Rattle.book.specs.declared.replies.Counted.{Counted}
 use Rattle.book.specs.declared.replies.Reply.{Reply}
-use Rattle.book.specs.Appending.{tenOf}
-use Rattle.book.specs.Calls.{replyOf, postRefusal, postReply, postBook, postedEntry, enrolRefusal, enrolReply, enrolBook, enrolledElement, quoteRefusal, quoteReply, quoteBook, quotedElement, quotedAmount}
-use Rattle.book.specs.Quotes.{capShares}
-use Rattle.apportion.proofs.Sums.{below-or-not}
-use Rattle.book_words.proofs.Booleans.{cond-same}
-use Rattle.book_words.proofs.Capping.{capped-small, capped-added, sums-exact, sums-within, within-parts}
-use Rattle.book_words.proofs.Facts.{sound-sums}
-use Rattle.book.proofs.Accepting.{Posted, posted-within, Enrolled, Quoted, quoted-amounts, passesQuote}
-use Rattle.book.proofs.Quotes.{uncapped}
-use Rattle.book.proofs.Refusing.{counted-refused, call-admitted}
+use Rattle.book.specs.Appending.{tenOf, capAmounts, capShares}
+use Rattle.book.specs.Calls.{replyOf, postedEntry, quotedElement}
+use Rattle.apportion.proofs.Grounds.{areNumbered, groundsFrom, decided-from}
+use Rattle.book_words.proofs.Capping.{capped-small, capped-more, sums-exact, sums-within, within-parts}
+use Rattle.book.proofs.Refusing.{counted-refused}
 
--- a sum that is not within a limit passes it
-passes : (limit n : ℕ) → not (leb n limit) ≡ ltb limit n
-passes limit n =
-    ⊎-elim
-    (λ (l : n < suc limit). ap not (le-leb n limit (omega arith)) ∙ sym (le-ltb limit n (omega arith)))
-    (λ (g : suc limit ≤ n). ap not (lt-leb n limit g) ∙ sym (lt-ltb limit n g))
-    (below-or-not n (suc limit))
+-- the sums with two amounts more, and this activity
+module _ (sums : Sums) (x y z : ℕ) where
+  abbrev raised : ℕ → ℕ → Sums
+  raised a b = record { operation = sums .operation + a; provision = sums .provision + b; activity = z }
 
-not-all : (a b c : Bool) → not (a && b && c) ≡ not a || not b || not c
-not-all true true c = refl
-not-all true false c = refl
-not-all false b c = refl
+  cap-passes : passesLimits (raised (capped x) (capped y)) ≡ passesLimits (raised x y)
+  cap-passes =
+      let same : capSums (raised (capped x) (capped y)) ≡ capSums (raised x y) = rw (capped-more (sums .operation) x, capped-more (sums .provision) y) in
+      ap not (sym (sums-within (raised (capped x) (capped y))) ∙ ap withinLimits same ∙ sums-within (raised x y))
 
-limits-passed : (sums : Sums) → not (withinLimits sums) ≡ ltb largest (sums .operation) || ltb largest (sums .provision) || ltb mostActivity (sums .activity)
-limits-passed sums =
-    not-all (leb (sums .operation) largest) (leb (sums .provision) largest) (leb (sums .activity) mostActivity)
-    ∙ rw (passes largest (sums .operation), passes largest (sums .provision), passes mostActivity (sums .activity))
+  cap-exact : passesLimits (raised x y) ≡ false → (capped x ≡ x) × (capped y ≡ y)
+  cap-exact e =
+      let within = within-parts (raised x y) (not-false (withinLimits (raised x y)) e) in
+      (capped-small x (omega (arith, within .0)), capped-small y (omega (arith, within .1)))
 
--- ground 10 of a sound book
-module _ (ws : List ℕ) (fine : sound ws ≡ true) where
-  -- of an entry whose amounts are capped
-  pub post-ten : (category group a b : ℕ)
-      → tenOf (withEntry (sumsOf ws) (record { category = category; group = group; operation = capped a; provision = capped b; struck = 0 }))
-      ≡ cond (passesAmounts ws a b) 10 0
-  post-ten category group a b =
-      let within = within-parts (sumsOf ws) (sound-sums ws fine) in
-      rw (
-        limits-passed (withEntry (sumsOf ws) (record { category = category; group = group; operation = capped a; provision = capped b; struck = 0 })),
-        capped-added (emitted ws operation) a,
-        capped-added (emitted ws provision) b,
-        le-ltb mostActivity (activities ws) (within .2),
-        or-false (passesAmounts ws a b),
+-- one record passes the limits as another does, and where it does not, they are the same
+abbrev Alike : {R : Type 0} → (R → Sums) → R → R → Type 0
+Alike with-record one other =
+    (passesLimits (with-record one) ≡ passesLimits (with-record other)) × (passesLimits (with-record other) ≡ false → one ≡ other)
+
+-- so do a record whose amounts are capped and the record
+module _ (sums : Sums) where
+  pub post-capped : (p : PostArguments) → Alike (withEntry sums) (capAmounts (postedEntry p)) (postedEntry p)
+  post-capped p =
+      let r = postedEntry p in (
+        cap-passes sums (r .operation) (r .provision) (sums .activity),
+        λ e. let exact = cap-exact sums (r .operation) (r .provision) (sums .activity) e in rw (exact .0, exact .1),
       )
 
-  -- of an element without shares
-  pub enrol-ten : (e : Element) → e .operation ≡ 0 → e .provision ≡ 0 → tenOf (withElement (sumsOf ws) e) ≡ cond (passesActivity ws e) 10 0
-  enrol-ten e none nil =
-      let within = within-parts (sumsOf ws) (sound-sums ws fine) in
-      rw (
-        limits-passed (withElement (sumsOf ws) e),
-        none,
-        nil,
-        cond-same {A = ℕ} (eqb (e .category) 0) 0,
-        add-zero (emitted ws operation),
-        add-zero (emitted ws provision),
-        le-ltb largest (emitted ws operation) (within .0),
-        le-ltb largest (emitted ws provision) (within .1),
+  pub quote-capped : (q : QuoteArguments) → Alike (withElement sums) (capShares (quotedElement q)) (quotedElement q)
+  unfolding massActivity
+  quote-capped q =
+      let r = quotedElement q in
+      let activity = sums .activity + massActivity r in (
+        cap-passes sums (r .operation) (r .provision) activity,
+        λ e. let exact = cap-exact sums (r .operation) (r .provision) activity e in rw (exact .0, exact .1),
       )
 
--- of a quoted element whose shares are capped
-pub quote-ten : (ws : List ℕ) (chain adjust mass distance operationIntensity provisionIntensity : ℕ)
-    → tenOf (withElement (sumsOf ws) (capShares (quotedElement chain adjust mass distance operationIntensity provisionIntensity)))
-    ≡ cond (passesQuote ws chain adjust mass distance operationIntensity provisionIntensity) 10 0
-unfolding massActivity
-quote-ten ws chain adjust mass distance operationIntensity provisionIntensity =
-    rw (
-      limits-passed (withElement (sumsOf ws) (capShares (quotedElement chain adjust mass distance operationIntensity provisionIntensity))),
-      capped-added (emitted ws operation) (quotedAmount adjust mass distance operationIntensity),
-      capped-added (emitted ws provision) (quotedAmount adjust mass distance provisionIntensity),
-    )
+-- what a call with this refusal number answers and leaves, with the sums of the book that is left
+abbrev Answered : ℕ → ℕ → List ℕ → List ℕ → Reply → List ℕ → Sums → Type 0
+Answered refusal number new old reply after sums =
+    (reply ≡ replyOf refusal number) × ((after ≡ accepted refusal new old) × (sums ≡ sumsOf after))
 
 -- a record is turned away, or admitted, by the capped sums that it would make, which are `more`
-module _ (more after : Sums) (is : after ≡ capSums more) (t : Bool) (test : t ≡ withinLimits after) where
+module _ (more : Sums) (number : ℕ) (new old : List ℕ) {after : Sums} {t : Bool} (is : after ≡ capSums more) (test : t ≡ withinLimits after) where
   decided : t ≡ withinLimits more
   decided = test ∙ ap withinLimits is ∙ sums-within more
 
-  pub turned-away : (r : Counted) (number : ℕ) (new old : List ℕ) (sums : Sums) → not t ≡ true → r ≡ record { reply = record { refusal = 10; number = 0 }; sums = sums } → sums ≡ sumsOf old
-      → (r .reply ≡ replyOf (tenOf more) number) × ((old ≡ accepted (tenOf more) new old) × (r .sums ≡ sumsOf old))
-  turned-away r number new old sums past e known =
+  pub turned-away : {r : Counted} {sums : Sums} → not t ≡ true → r ≡ record { reply = record { refusal = 10; number = 0 }; sums = sums }
+      → sums ≡ sumsOf old → Answered (tenOf more) number new old (r .reply) old (r .sums)
+  turned-away past e known =
       let ten : 10 ≡ tenOf more = rw (sym decided ∙ not-true t past) in
-      counted-refused r 10 (tenOf more) number new old sums e ten (λ z. omega arith) known
+      counted-refused number new e ten (λ z. omega arith) known
 
-  pub admitted : (r : Reply) (number : ℕ) (new left old : List ℕ) → not t ≡ false → r ≡ replyOf 0 number → left ≡ new → sumsOf new ≡ more
-      → (r ≡ replyOf (tenOf more) number) × ((left ≡ accepted (tenOf more) new old) × (after ≡ sumsOf left))
-  admitted r number new left old within e made sums =
+  pub admitted : {r : Reply} {left : List ℕ} → not t ≡ false → (r ≡ replyOf 0 number) × (left ≡ new) → sumsOf new ≡ more
+      → Answered (tenOf more) number new old r left after
+  admitted within made sums =
       let fine = sym decided ∙ not-false t within in
-      (rw fine e, (rw fine made, is ∙ sums-exact more fine ∙ sym (ap sumsOf made ∙ sums)))
+      (rw fine (made .0), (rw fine (made .1), is ∙ sums-exact more fine ∙ sym (ap sumsOf (made .1) ∙ sums)))
 
--- The number by which a record was admitted or not is the call's, where none of the grounds before 10 holds; and so is the record.
-module _ (ws : List ℕ) (category group quantity operationFactor provisionFactor : ℕ) (ok : Posted ws category group quantity operationFactor provisionFactor) where
-  abbrev entryBy : ℕ → ℕ → Entry
-  entryBy a b = record { category = category; group = group; operation = a; provision = b; struck = 0 }
-
-  pub post-decided : {sums : Sums} {a b : ℕ} {r : Reply} {after : List ℕ} → sums ≡ sumsOf ws → a ≡ capped (quantity * operationFactor) → b ≡ capped (quantity * provisionFactor)
-      → r ≡ replyOf (tenOf (withEntry sums (entryBy a b))) (entries ws + 1)
-      → after ≡ accepted (tenOf (withEntry sums (entryBy a b))) (addEntry ws (entryBy a b)) ws
-      → (r ≡ postReply ws category group quantity operationFactor provisionFactor) × (after ≡ postBook ws category group quantity operationFactor provisionFactor)
-  unfolding postReply postBook
-  post-decided {sums} {a} {b} {r} {after} known first second gave left =
-      let n = tenOf (withEntry sums (entryBy a b)) in
-      let m = postRefusal ws category group quantity operationFactor provisionFactor in
-      let is : n ≡ m = rw (known, first, second) (post-ten ws (ok .fine) category group (quantity * operationFactor) (quantity * provisionFactor) ∙ sym (ok .only-ten)) in
-      call-admitted r n m (entries ws + 1) (addEntry ws (postedEntry category group quantity operationFactor provisionFactor)) (addEntry ws (entryBy a b)) after ws is same gave left
-    where
-      same : postRefusal ws category group quantity operationFactor provisionFactor ≡ 0 → addEntry ws (entryBy a b) ≡ addEntry ws (postedEntry category group quantity operationFactor provisionFactor)
-      same none =
-          let within = posted-within ws category group quantity operationFactor provisionFactor none in
-          rw (
-            first,
-            second,
-            capped-small (quantity * operationFactor) (omega (arith, within .0)),
-            capped-small (quantity * provisionFactor) (omega (arith, within .1)),
-          )
-
-module _ (ws : List ℕ) (category chain code amount distance : ℕ) (ok : Enrolled ws category chain code amount distance) where
-  pub enrol-decided : {sums : Sums} {e : Element} {r : Reply} {after : List ℕ} → sums ≡ sumsOf ws → e ≡ enrolledElement ws category chain code amount distance
-      → r ≡ replyOf (tenOf (withElement sums e)) (elements ws + 1)
-      → after ≡ accepted (tenOf (withElement sums e)) (addElement ws e) ws
-      → (r ≡ enrolReply ws category chain code amount distance) × (after ≡ enrolBook ws category chain code amount distance)
-  unfolding enrolReply enrolBook
-  enrol-decided {sums} {e} {r} {after} known element gave left =
-      let n = tenOf (withElement sums e) in
-      let m = enrolRefusal ws category chain code amount distance in
-      let new = enrolledElement ws category chain code amount distance in
-      let is : n ≡ m = rw (known, element) (enrol-ten ws (ok .fine) new refl refl ∙ sym (ok .only-ten)) in
-      call-admitted r n m (elements ws + 1) (addElement ws new) (addElement ws e) after ws is (λ z. ap (addElement ws) element) gave left
-
-module _ (ws : List ℕ) (chain adjust mass distance operationIntensity provisionIntensity : ℕ) (ok : Quoted ws chain adjust mass distance operationIntensity provisionIntensity) where
-  pub quote-decided : {sums : Sums} {e : Element} {r : Reply} {after : List ℕ} → sums ≡ sumsOf ws → e ≡ capShares (quotedElement chain adjust mass distance operationIntensity provisionIntensity)
-      → r ≡ replyOf (tenOf (withElement sums e)) (elements ws + 1)
-      → after ≡ accepted (tenOf (withElement sums e)) (addElement ws e) ws
-      → (r ≡ quoteReply ws chain adjust mass distance operationIntensity provisionIntensity) × (after ≡ quoteBook ws chain adjust mass distance operationIntensity provisionIntensity)
-  unfolding quoteReply quoteBook
-  quote-decided {sums} {e} {r} {after} known element gave left =
-      let n = tenOf (withElement sums e) in
-      let m = quoteRefusal ws chain adjust mass distance operationIntensity provisionIntensity in
-      let new = quotedElement chain adjust mass distance operationIntensity provisionIntensity in
-      let is : n ≡ m = rw (known, element) (quote-ten ws chain adjust mass distance operationIntensity provisionIntensity ∙ sym (ok .only-ten)) in
-      call-admitted r n m (elements ws + 1) (addElement ws new) (addElement ws e) after ws is same gave left
-    where
-      same : quoteRefusal ws chain adjust mass distance operationIntensity provisionIntensity ≡ 0 → addElement ws e ≡ addElement ws (quotedElement chain adjust mass distance operationIntensity provisionIntensity)
-      same none =
-          let within = quoted-amounts ws chain adjust mass distance operationIntensity provisionIntensity none in
-          ap (addElement ws) (element ∙ uncapped chain adjust mass distance operationIntensity provisionIntensity (omega (arith, within .0)) (omega (arith, within .1)))
+-- Past the grounds before 10 the record `made`, which was admitted or not, and the call's record `new` decide alike: the reply and the
+-- book are the call's.
+pub record-decided : {R : Type 0} (with-record : Sums → R → Sums) (add : List ℕ → R → List ℕ) (new cap : R) (gs : List Ground) (number : ℕ) (ws : List ℕ)
+    {n : ℕ} {made : R} {sums : Sums} {r : Counted} {after : List ℕ} → areNumbered gs ≡ true
+    → groundsFrom 10 gs ≡ (10, passesLimits (with-record (sumsOf ws) new)) ∷ []
+    → n ≡ firstOf (groundsBefore 10 gs) → n ≡ 0 → sums ≡ sumsOf ws → made ≡ cap → Alike (with-record sums) cap new
+    → Answered (tenOf (with-record sums made)) number (add ws made) ws (r .reply) after (r .sums)
+    → Answered (firstOf gs) number (add ws new) ws (r .reply) after (r .sums)
+record-decided with-record add new cap gs number ws {sums = sums} {r = r} {after = after} numbered ten is none known made-is alike gave =
+    rw (decided-from 10 gs numbered (sym is ∙ none) ∙ ap firstOf ten, ← known)
+    (go (passesLimits (with-record sums new)) refl (rw (made-is, alike .0) at gave))
+  where
+    go : (b : Bool) → passesLimits (with-record sums new) ≡ b → Answered (cond b 10 0) number (add ws cap) ws (r .reply) after (r .sums)
+        → Answered (cond b 10 0) number (add ws new) ws (r .reply) after (r .sums)
+    go true e a = a
+    go false e a = (a .0, (a .1 .0 ∙ ap (add ws) (alike .1 e), a .1 .1))

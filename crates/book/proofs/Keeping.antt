@@ -9,44 +9,46 @@ use native.Mathlib.Omega.{arith}
 use lib.Dec.{leb, eqb}
 use borrow.Author.Tests.{le-leb, ne-eqb}
 use Rattle.apportion.specs.Dividing.{largest}
-use Rattle.apportion.specs.Places.{sumBelow}
 use Rattle.book_words.specs.Book.{categories, categoryAt, categoryOf, entries, entryAt, elements, elementAt, mostCategories, mostEntries, mostElements}
-use Rattle.book_words.specs.Measures.{massActivity, between, isGroup, unsuitedGroup}
+use Rattle.book_words.specs.Measures.{between, isGroup, unsuitedGroup}
 use Rattle.book_words.specs.Soundness.{entryFine, entrySuits, elementFine, elementSuits, categoryFine}
-use Rattle.book_words.specs.Totals.{Side, unstruck, allUnstruck, unstruckOf, sharesOf, shareOf, activities, emitted, mostActivity}
+use Rattle.book_words.specs.Totals.{Side, unstruck, allUnstruck, unstruckOf, shareOf, sharesOf, sumsOf, withEntry, withElement, withinLimits}
 use Rattle.book_words.specs.declared.records.Category.{Category}
 use Rattle.book_words.specs.declared.records.Element.{Element}
 use Rattle.book_words.specs.declared.records.Entry.{Entry}
-use Rattle.apportion.proofs.Sums.{sum-next, sum-cong, below-or-not, sum-le}
+use Rattle.apportion.proofs.Sums.{sum-cong, below-or-not, sum-le}
 use Rattle.book_words.proofs.Booleans.{and-both, both}
+use Rattle.book_words.proofs.Capping.{within-parts}
+use Rattle.book_words.proofs.Facts.{limits-limited}
 use Rattle.book_words.proofs.Kept.{same-or-not, entries-kept, elements-kept}
 use Rattle.book_words.proofs.Ranges.{between-low, between-high}
 use Rattle.book_words.proofs.Rules.{entry-inside, entry-numbered, element-quoted, element-inside, element-numbered}
 use Rattle.book_words.proofs.Views.{struckEntry, EntryStruck, CategoryAdded, EntryAdded, ElementAdded}
-use Rattle.book_words.proofs.Wholes.{Whole}
+use Rattle.book_words.proofs.Wholes.{Balanced, Whole}
+use Rattle.book.proofs.Counting.{entries-more, elements-more, entry-sums, element-sums}
 
 -- the categories that were there are there still, and the same
-pub record Carried (ws ws′ : List ℕ) : Type 0 where
-  pub no-fewer : categories ws ≤ categories ws′
-  pub same : (p : ℕ) → p < categories ws → categoryAt ws′ p ≡ categoryAt ws p
+record Carried (ws ws′ : List ℕ) : Type 0 where
+  no-fewer : categories ws ≤ categories ws′
+  same : (p : ℕ) → p < categories ws → categoryAt ws′ p ≡ categoryAt ws p
 
 module _ (ws ws′ : List ℕ) (carried : Carried ws ws′) where
   carried-of : (category : ℕ) → 1 ≤ category → category ≤ categories ws → categoryOf ws′ category ≡ categoryOf ws category
   carried-of category low high = carried .same (category - 1) (omega arith)
 
   -- a record that kept the rules keeps them
-  pub entry-carried : (r : Entry) → entryFine ws r ≡ true → entryFine ws′ r ≡ true
+  entry-carried : (r : Entry) → entryFine ws r ≡ true → entryFine ws′ r ≡ true
   entry-carried r e =
       let inside = entry-inside ws r e in
       let low = between-low 1 (categories ws) (r .category) inside in
       let high = between-high 1 (categories ws) (r .category) inside in
-      let inside′ = and-both (leb 1 (r .category)) (leb (r .category) (categories ws′)) (le-leb 1 (r .category) low) (le-leb (r .category) (categories ws′) (omega (arith, carried .no-fewer))) in
-      sym (entry-numbered ws′ r inside′)
+      let most = le-leb (r .category) (categories ws′) (omega (arith, carried .no-fewer)) in
+      sym (entry-numbered ws′ r (and-both (leb 1 (r .category)) (leb (r .category) (categories ws′)) (le-leb 1 (r .category) low) most))
       ∙ ap (λ (k : Category). entrySuits k r) (carried-of (r .category) low high)
       ∙ entry-numbered ws r inside
       ∙ e
 
-  pub element-carried : (r : Element) → elementFine ws r ≡ true → elementFine ws′ r ≡ true
+  element-carried : (r : Element) → elementFine ws r ≡ true → elementFine ws′ r ≡ true
   element-carried r e =
       ⊎-elim
       (λ (none : r .category ≡ 0). sym (element-quoted ws′ r none) ∙ element-quoted ws r none ∙ e)
@@ -63,61 +65,27 @@ module _ (ws ws′ : List ℕ) (carried : Carried ws ws′) where
 abbrev inCategory : ℕ → Side → Entry → ℕ
 inCategory k s r = cond (eqb (r .category) k) (unstruck s r) 0
 
--- the sum over a list with one record more
-sum-one-more : (n n′ : ℕ) (f f′ : ℕ → ℕ) (new : ℕ) → n′ ≡ n + 1 → ((p : ℕ) → p < n → f′ p ≡ f p) → f′ n ≡ new → sumBelow n′ f′ ≡ sumBelow n f + new
-sum-one-more n n′ f f′ new e same here = rw (e, sum-next n f′, sum-cong n f′ f same, here)
-
 -- a place of a list with one record more is an old one, or the last
 last : {A : Type 0} (n p : ℕ) → p < n + 1 → (p < n → A) → (p ≡ n → A) → A
 last n p h old new = ⊎-elim (λ (i : p < n). old i) (λ (i : n ≤ p). new (omega arith)) (below-or-not p n)
 
 module _ (ws ws′ : List ℕ) where
-  -- the sums over a list with one record more
-  pub entries-more : (r : Entry) → entries ws′ ≡ entries ws + 1 → ((p : ℕ) → p < entries ws → entryAt ws′ p ≡ entryAt ws p) → entryAt ws′ (entries ws) ≡ r
-      → ((s : Side) → allUnstruck ws′ s ≡ allUnstruck ws s + unstruck s r)
-      × ((k : ℕ) (s : Side) → unstruckOf ws′ k s ≡ unstruckOf ws k s + cond (eqb (r .category) k) (unstruck s r) 0)
-  unfolding allUnstruck unstruckOf
-  entries-more r e same new = (
-    λ s.
-        sum-one-more (entries ws) (entries ws′) (λ p. unstruck s (entryAt ws p)) (λ p. unstruck s (entryAt ws′ p)) (unstruck s r) e
-        (λ p h. ap (unstruck s) (same p h)) (ap (unstruck s) new),
-    λ k s.
-        sum-one-more (entries ws) (entries ws′)
-        (λ p. cond (eqb (entryAt ws p .category) k) (unstruck s (entryAt ws p)) 0)
-        (λ p. cond (eqb (entryAt ws′ p .category) k) (unstruck s (entryAt ws′ p)) 0)
-        (cond (eqb (r .category) k) (unstruck s r) 0) e
-        (λ p h. ap (λ (x : Entry). cond (eqb (x .category) k) (unstruck s x) 0) (same p h))
-        (ap (λ (x : Entry). cond (eqb (x .category) k) (unstruck s x) 0) new),
-  )
-
-  pub elements-more : (r : Element) → elements ws′ ≡ elements ws + 1 → ((p : ℕ) → p < elements ws → elementAt ws′ p ≡ elementAt ws p) → elementAt ws′ (elements ws) ≡ r
-      → ((k : ℕ) (s : Side) → sharesOf ws′ k s ≡ sharesOf ws k s + cond (eqb (r .category) k) (shareOf s r) 0)
-      × (activities ws′ ≡ activities ws + massActivity r)
-  unfolding sharesOf activities
-  elements-more r e same new = (
-    λ k s.
-        sum-one-more (elements ws) (elements ws′)
-        (λ p. cond (eqb (elementAt ws p .category) k) (shareOf s (elementAt ws p)) 0)
-        (λ p. cond (eqb (elementAt ws′ p .category) k) (shareOf s (elementAt ws′ p)) 0)
-        (cond (eqb (r .category) k) (shareOf s r) 0) e
-        (λ p h. ap (λ (x : Element). cond (eqb (x .category) k) (shareOf s x) 0) (same p h))
-        (ap (λ (x : Element). cond (eqb (x .category) k) (shareOf s x) 0) new),
-    sum-one-more (elements ws) (elements ws′) (λ p. massActivity (elementAt ws p)) (λ p. massActivity (elementAt ws′ p)) (massActivity r) e
-        (λ p h. ap massActivity (same p h)) (ap massActivity new),
-  )
-
   -- the categories are the same
-  carried-over : categories ws′ ≡ categories ws → categories ws ≤ mostCategories → ((p : ℕ) → p < mostCategories → categoryAt ws′ p ≡ categoryAt ws p) → Carried ws ws′
-  carried-over e most same = record { no-fewer = omega arith; same = λ p h. same p (omega arith) }
+  module _ (w : Whole ws) (e : categories ws′ ≡ categories ws) (same : (p : ℕ) → p < mostCategories → categoryAt ws′ p ≡ categoryAt ws p) where
+    carried-over : Carried ws ws′
+    carried-over = record { no-fewer = omega arith; same = λ p h. same p (omega (arith, w .counts .categories-most)) }
 
-  same-fine : Whole ws → categories ws′ ≡ categories ws → ((p : ℕ) → p < mostCategories → categoryAt ws′ p ≡ categoryAt ws p)
-      → (p : ℕ) → p < categories ws′ → categoryFine (categoryAt ws′ p) ≡ true
-  same-fine w e same p h = ap categoryFine (same p (omega (arith, w .counts .categories-most))) ∙ w .each-category p (omega arith)
+    same-fine : (p : ℕ) → p < categories ws′ → categoryFine (categoryAt ws′ p) ≡ true
+    same-fine p h = ap categoryFine (same p (omega (arith, w .counts .categories-most))) ∙ w .each-category p (omega arith)
 
-  was-closed-at : Whole ws → ((p : ℕ) → p < mostCategories → categoryAt ws′ p ≡ categoryAt ws p) → (p : ℕ) → p < categories ws
-      → (categoryAt ws′ p .closed ≡ 0 → ⊥) → categoryAt ws p .closed ≡ 0 → ⊥
-  was-closed-at w same p h closed e =
-      closed (ap (λ (x : Category). x .closed) (same p (omega (arith, w .counts .categories-most))) ∙ e)
+    -- and so are the sums of the closed ones
+    same-balance : ((p : ℕ) → (categoryAt ws p .closed ≡ 0 → ⊥) → (s : Side)
+        → (sharesOf ws′ (p + 1) s ≡ sharesOf ws (p + 1) s) × (unstruckOf ws′ (p + 1) s ≡ unstruckOf ws (p + 1) s))
+        → (p : ℕ) → p < categories ws′ → Balanced ws′ p
+    same-balance sums p h closed s =
+        let kept = same p (omega (arith, w .counts .categories-most)) in
+        let before : categoryAt ws p .closed ≡ 0 → ⊥ = λ z. closed (ap (λ (x : Category). x .closed) kept ∙ z) in
+        sums p before s .0 ∙ w .balanced p (omega arith) before s ∙ sym (sums p before s .1)
 
   -- a record of an open category is of no closed one
   elsewhere-not : (category p : ℕ) → categoryOf ws category .closed ≡ 0 → (categoryAt ws p .closed ≡ 0 → ⊥) → category ≡ p + 1 → ⊥
@@ -169,6 +137,12 @@ module _ (ws ws′ : List ℕ) where
       none : (r : Entry) → (r .category ≡ k → ⊥) → cond (eqb (r .category) k) (unstruck s r) 0 ≡ 0
       none r ne = rw (ne-eqb (r .category) k ne)
 
+  -- where the elements are the same, they keep their rules
+  elements-fine : Whole ws → Carried ws ws′ → elements ws′ ≡ elements ws → ((p : ℕ) → elementAt ws′ p ≡ elementAt ws p)
+      → (p : ℕ) → p < elements ws′ → elementFine ws′ (elementAt ws′ p) ≡ true
+  elements-fine w carried e same p h =
+      ap (elementFine ws′) (same p) ∙ element-carried ws ws′ carried (elementAt ws p) (w .each-element p (omega arith))
+
   -- a category appended
   pub open-keeps : (r : Category) → Whole ws → CategoryAdded ws ws′ r → categories ws < mostCategories → categoryFine r ≡ true → r .closed ≡ 0 → Whole ws′
   open-keeps r w a room fine unclosed =
@@ -176,12 +150,7 @@ module _ (ws ws′ : List ℕ) where
       let entry-sums = entries-kept ws ws′ (a .same-entries) (λ p h. a .entry-kept p) in
       let element-sums = elements-kept ws ws′ (a .same-elements) (λ p h. a .element-kept p) in
       record {
-        counts = record {
-          long = omega (arith, a .same-length, w .counts .long);
-          categories-most = omega (arith, a .one-more);
-          entries-most = omega (arith, a .same-entries, w .counts .entries-most);
-          elements-most = omega (arith, a .same-elements, w .counts .elements-most);
-        };
+        counts = omega (arith, w .counts, a .same-length, a .one-more, a .same-entries, a .same-elements);
         marked = a .same-mark ∙ w .marked;
         each-category = λ p h.
             last (categories ws) p (omega (arith, a .one-more))
@@ -189,61 +158,49 @@ module _ (ws ws′ : List ℕ) where
             (λ e. ap (λ (q : ℕ). categoryFine (categoryAt ws′ q)) e ∙ ap categoryFine (a .category-new) ∙ fine);
         each-entry = λ p h.
             ap (entryFine ws′) (a .entry-kept p) ∙ entry-carried ws ws′ carried (entryAt ws p) (w .each-entry p (omega (arith, a .same-entries)));
-        each-element = λ p h.
-            ap (elementFine ws′) (a .element-kept p) ∙ element-carried ws ws′ carried (elementAt ws p) (w .each-element p (omega (arith, a .same-elements)));
+        each-element = elements-fine w carried (a .same-elements) (a .element-kept);
         limited = λ s. omega (arith, entry-sums .0 s, element-sums .0 0 s, w .limited s);
         active = omega (arith, element-sums .1, w .active);
         balanced = λ p h closed s.
             last (categories ws) p (omega (arith, a .one-more))
             (λ i.
-            element-sums .0 (p + 1) s ∙ w .balanced p i (λ e. closed (ap (λ (x : Category). x .closed) (a .category-kept p (λ same. omega arith)) ∙ e)) s ∙ sym (entry-sums .1 (p + 1) s))
+            let closed-before : categoryAt ws p .closed ≡ 0 → ⊥ =
+            λ e. closed (ap (λ (x : Category). x .closed) (a .category-kept p (λ same. omega arith)) ∙ e) in
+            element-sums .0 (p + 1) s ∙ w .balanced p i closed-before s ∙ sym (entry-sums .1 (p + 1) s))
             (λ e. absurd (closed (ap (λ (q : ℕ). categoryAt ws′ q .closed) e ∙ ap (λ (x : Category). x .closed) (a .category-new) ∙ unclosed)));
       }
 
   -- an entry appended
   pub post-keeps : (r : Entry) → Whole ws → EntryAdded ws ws′ r → entries ws < mostEntries → entryFine ws r ≡ true → categoryOf ws (r .category) .closed ≡ 0
-      → ((s : Side) → emitted ws s + unstruck s r ≤ largest) → Whole ws′
+      → withinLimits (withEntry (sumsOf ws) r) ≡ true → Whole ws′
   post-keeps r w a room fine unclosed within =
-      let carried = carried-over (a .same-categories) (w .counts .categories-most) (a .category-kept) in
-      let entry-sums = entries-more r (a .one-more) (λ p h. a .entry-kept p (λ e. omega arith)) (a .entry-new) in
+      let sums = ap withinLimits (entry-sums ws ws′ r a) ∙ within in
+      let carried = carried-over w (a .same-categories) (a .category-kept) in
+      let entry-more = entries-more ws ws′ r a in
       let element-sums = elements-kept ws ws′ (a .same-elements) (λ p h. a .element-kept p) in
       record {
-        counts = record {
-          long = omega (arith, a .same-length, w .counts .long);
-          categories-most = omega (arith, a .same-categories, w .counts .categories-most);
-          entries-most = omega (arith, a .one-more);
-          elements-most = omega (arith, a .same-elements, w .counts .elements-most);
-        };
+        counts = omega (arith, w .counts, a .same-length, a .same-categories, a .one-more, a .same-elements);
         marked = a .same-mark ∙ w .marked;
         each-category = same-fine w (a .same-categories) (a .category-kept);
         each-entry = λ p h.
             last (entries ws) p (omega (arith, a .one-more))
             (λ i. ap (entryFine ws′) (a .entry-kept p (λ e. omega arith)) ∙ entry-carried ws ws′ carried (entryAt ws p) (w .each-entry p i))
             (λ e. ap (λ (q : ℕ). entryFine ws′ (entryAt ws′ q)) e ∙ ap (entryFine ws′) (a .entry-new) ∙ entry-carried ws ws′ carried r fine);
-        each-element = λ p h.
-            ap (elementFine ws′) (a .element-kept p) ∙ element-carried ws ws′ carried (elementAt ws p) (w .each-element p (omega (arith, a .same-elements)));
-        limited = λ s. omega (arith, entry-sums .0 s, element-sums .0 0 s, within s);
-        active = omega (arith, element-sums .1, w .active);
-        balanced = λ p h closed s.
-            let i : p < categories ws = omega (arith, a .same-categories) in
-            let closed-before = was-closed-at w (a .category-kept) p i closed in
-            element-sums .0 (p + 1) s
-            ∙ w .balanced p i closed-before s
-            ∙ sym (entry-sums .1 (p + 1) s ∙ rw (elsewhere (r .category) p (unstruck s r) unclosed closed-before, add-zero));
+        each-element = elements-fine w carried (a .same-elements) (a .element-kept);
+        limited = limits-limited ws′ sums;
+        active = within-parts (sumsOf ws′) sums .2;
+        balanced = same-balance w (a .same-categories) (a .category-kept)
+            (λ p closed s.
+            (element-sums .0 (p + 1) s, entry-more .1 (p + 1) s ∙ rw (elsewhere (r .category) p (unstruck s r) unclosed closed, add-zero)));
       }
 
   -- an entry struck
   pub strike-keeps : (place : ℕ) → Whole ws → EntryStruck ws ws′ place → place < entries ws → categoryOf ws (entryAt ws place .category) .closed ≡ 0 → Whole ws′
   strike-keeps place w a h unclosed =
-      let carried = carried-over (a .same-categories) (w .counts .categories-most) (a .category-kept) in
+      let carried = carried-over w (a .same-categories) (a .category-kept) in
       let element-sums = elements-kept ws ws′ (a .same-elements) (λ p i. a .element-kept p) in
       record {
-        counts = record {
-          long = omega (arith, a .same-length, w .counts .long);
-          categories-most = omega (arith, a .same-categories, w .counts .categories-most);
-          entries-most = omega (arith, a .same-entries, w .counts .entries-most);
-          elements-most = omega (arith, a .same-elements, w .counts .elements-most);
-        };
+        counts = omega (arith, w .counts, a .same-length, a .same-categories, a .same-entries, a .same-elements);
         marked = a .same-mark ∙ w .marked;
         each-category = same-fine w (a .same-categories) (a .category-kept);
         each-entry = λ p i.
@@ -255,35 +212,26 @@ module _ (ws ws′ : List ℕ) where
             (λ (ne : p ≡ place → ⊥).
             ap (entryFine ws′) (a .entry-kept p ne) ∙ entry-carried ws ws′ carried (entryAt ws p) (w .each-entry p (omega (arith, a .same-entries))))
             (same-or-not p place);
-        each-element = λ p i.
-            ap (elementFine ws′) (a .element-kept p) ∙ element-carried ws ws′ carried (elementAt ws p) (w .each-element p (omega (arith, a .same-elements)));
+        each-element = elements-fine w carried (a .same-elements) (a .element-kept);
         limited = λ s. omega (arith, struck-less place a s, element-sums .0 0 s, w .limited s);
         active = omega (arith, element-sums .1, w .active);
-        balanced = λ p i closed s.
-            let inside : p < categories ws = omega (arith, a .same-categories) in
-            let closed-before = was-closed-at w (a .category-kept) p inside closed in
-            element-sums .0 (p + 1) s
-            ∙ w .balanced p inside closed-before s
-            ∙ sym (struck-elsewhere place a (p + 1) s (elsewhere-not (entryAt ws place .category) p unclosed closed-before));
+        balanced = same-balance w (a .same-categories) (a .category-kept)
+            (λ p closed s.
+            (element-sums .0 (p + 1) s, struck-elsewhere place a (p + 1) s (elsewhere-not (entryAt ws place .category) p unclosed closed)));
       }
 
   -- an element appended
   pub element-keeps : (r : Element) → Whole ws → ElementAdded ws ws′ r → elements ws < mostElements → elementFine ws r ≡ true
-      → ((s : Side) → emitted ws s + cond (eqb (r .category) 0) (shareOf s r) 0 ≤ largest)
-      → activities ws + massActivity r ≤ mostActivity
+      → withinLimits (withElement (sumsOf ws) r) ≡ true
       → ((p : ℕ) (s : Side) → cond (eqb (r .category) (p + 1)) (shareOf s r) 0 ≡ 0)
       → Whole ws′
-  element-keeps r w a room fine within active none =
-      let carried = carried-over (a .same-categories) (w .counts .categories-most) (a .category-kept) in
+  element-keeps r w a room fine within none =
+      let sums = ap withinLimits (element-sums ws ws′ r a (w .counts .entries-most)) ∙ within in
+      let carried = carried-over w (a .same-categories) (a .category-kept) in
       let entry-sums = entries-kept ws ws′ (a .same-entries) (λ p h. a .entry-kept p (omega (arith, w .counts .entries-most))) in
-      let element-sums = elements-more r (a .one-more) (λ p h. a .element-kept p (λ e. omega arith)) (a .element-new) in
+      let element-more = elements-more ws ws′ r a in
       record {
-        counts = record {
-          long = omega (arith, a .same-length, w .counts .long);
-          categories-most = omega (arith, a .same-categories, w .counts .categories-most);
-          entries-most = omega (arith, a .same-entries, w .counts .entries-most);
-          elements-most = omega (arith, a .one-more);
-        };
+        counts = omega (arith, w .counts, a .same-length, a .same-categories, a .same-entries, a .one-more);
         marked = a .same-mark ∙ w .marked;
         each-category = same-fine w (a .same-categories) (a .category-kept);
         each-entry = λ p h.
@@ -293,10 +241,8 @@ module _ (ws ws′ : List ℕ) where
             last (elements ws) p (omega (arith, a .one-more))
             (λ i. ap (elementFine ws′) (a .element-kept p (λ e. omega arith)) ∙ element-carried ws ws′ carried (elementAt ws p) (w .each-element p i))
             (λ e. ap (λ (q : ℕ). elementFine ws′ (elementAt ws′ q)) e ∙ ap (elementFine ws′) (a .element-new) ∙ element-carried ws ws′ carried r fine);
-        limited = λ s. omega (arith, entry-sums .0 s, element-sums .0 0 s, within s);
-        active = omega (arith, element-sums .1, active);
-        balanced = λ p h closed s.
-            let i : p < categories ws = omega (arith, a .same-categories) in
-            element-sums .0 (p + 1) s
-            ∙ rw (none p s, add-zero) (w .balanced p i (was-closed-at w (a .category-kept) p i closed) s ∙ sym (entry-sums .1 (p + 1) s));
+        limited = limits-limited ws′ sums;
+        active = within-parts (sumsOf ws′) sums .2;
+        balanced = same-balance w (a .same-categories) (a .category-kept)
+            (λ p closed s. (element-more .0 (p + 1) s ∙ rw (none p s, add-zero), entry-sums .1 (p + 1) s));
       }

@@ -3,49 +3,57 @@
 -- `Views`; `CategoryClosed` of `Closed`); that a refused one leaves the list as it was; that either leaves a sound book sound; of an
 -- opening and a closing, that they leave the sums of ground 10 as they are.
 -- Assumes nothing.
-use mathlib.Core.Bool.{true, false, cond, _&&_}
+use mathlib.Core.Bool.{true, false, cond, not, _&&_}
 use mathlib.Core.List.{List}
 use mathlib.Core.Path.{_≡_, _∙_, refl, sym}
 use Prim.Native.Nat.{ℕ, _-_, _<_, _≤_, _+_}
-use native.Mathlib.Nat.{add-zero}
 use native.Mathlib.Omega.{arith}
 use lib.Dec.{eqb}
 use lib.ListN.{length, length-set, List·getD-append, drop}
 use lib.Seq.{getD-set-same, getD-set-other}
-use borrow.Author.Tests.{le-ltb, lt-ltb, ne-eqb}
-use Rattle.apportion.specs.Dividing.{largest}
+use borrow.Author.Tests.{le-ltb, lt-ltb, ne-eqb, leb-false, not-false}
 use Rattle.apportion.specs.Places.{at, listBelow, oneIf}
-use Rattle.book_words.specs.Book.{mark, bookLength, categories, entries, elements, categoryOf, entryAt, elementAt}
-use Rattle.book_words.specs.Measures.{isKind, isChain}
-use Rattle.book_words.specs.Soundness.{sound, categoryFine, entryFine, elementFine}
-use Rattle.book_words.specs.Totals.{allUnstruck, sharesOf, activities, operation, provision, Side, emitted, unstruck, shareOf, sumsOf}
+use Rattle.book_words.specs.Book.{mark, bookLength, categories, mostCategories, entries, mostEntries, elements, mostElements}
+use Rattle.book_words.specs.Book.{categoryOf, entryAt, elementAt, isClosed}
+use Rattle.book_words.specs.Measures.{between, isKind, isGroup, isChain, isCode, isAdjust, isAmount, isDistance}
+use Rattle.book_words.specs.Soundness.{sound, categoryFine, elementFine}
+use Rattle.book_words.specs.Totals.{allUnstruck, sharesOf, activities, operation, provision, Side, shareOf, sumsOf, withEntry, withElement, withinLimits}
 use Rattle.book_words.specs.declared.records.Element.{Element}
-use Rattle.book_words.specs.declared.records.Entry.{Entry}
 use Rattle.book_shares.specs.Closing.{closeRefusal, closeBook}
 use Rattle.book_shares.specs.Shares.{closingShare}
-use Rattle.book.specs.Calls.{cleared, freshRefusal, freshBook, openRefusal, openBook, postRefusal, postBook, postedEntry, strikeRefusal, strikeBook, enrolRefusal, enrolBook, enrolledElement, quoteRefusal, quoteBook, quotedElement}
+use Rattle.book.specs.declared.arguments.EnrolArguments.{EnrolArguments}
+use Rattle.book.specs.declared.arguments.PostArguments.{PostArguments}
+use Rattle.book.specs.declared.arguments.QuoteArguments.{QuoteArguments}
+use Rattle.book.specs.Calls.{cleared, freshRefusal, freshBook, openRefusal, openBook, postRefusal, postBook, postedEntry}
+use Rattle.book.specs.Calls.{strikeRefusal, strikeBook, enrolRefusal, enrolBook, enrolledElement, quoteRefusal, quoteBook, quotedElement}
 use Rattle.book.specs.Statements.{ofChain, waits, elementsOn, waitingOn, sharesOn, zerosBeside, statementOf, statementRefusal, statementReply}
-use Rattle.apportion.proofs.Grounds.{refused-old, either}
+use Rattle.apportion.proofs.Grounds.{or-none, refused-old, either}
 use Rattle.apportion.proofs.Sums.{sum-zero}
 use Rattle.apportion.proofs.Lists.{filled, filled-length, list-length, list-at}
-use Rattle.book_words.proofs.Booleans.{and-both, cond-same}
+use Rattle.book_words.proofs.Booleans.{and-both, both, cond-same}
+use Rattle.book_words.proofs.Capping.{within-parts}
 use Rattle.book_words.proofs.Facts.{sound-counted}
 use Rattle.book_words.proofs.Ranges.{between-low, between-high}
 use Rattle.book_words.proofs.Rules.{entry-numbered, entry-suits, element-numbered, element-suits, element-quoted, quoted-suits}
 use Rattle.book_words.proofs.Views.{CategoryAdded, category-added, EntryAdded, entry-added, EntryStruck, entry-struck, ElementAdded, element-added}
-use Rattle.book_words.proofs.Wholes.{whole-sound, sound-whole}
+use Rattle.book_words.proofs.Wholes.{Whole, whole-sound, sound-whole}
 use Rattle.book_words.proofs.Writes.{filled-past}
-use Rattle.book.proofs.Accepting.{struck, opened, posted, posted-within, unclosed-zero, enrolled, enrolled-within, Enrolled, quoted, quoted-amounts, quoted-within}
+use Rattle.book.proofs.Accepting.{struck, opened, posted, unclosed-zero, enrolled, quoted}
 use Rattle.book.proofs.Counting.{category-sums, closing-sums}
 use Rattle.book.proofs.Keeping.{open-keeps, post-keeps, strike-keeps, element-keeps}
+use Rattle.book.proofs.Quotes.{quote-measured}
 use Rattle.book_shares.proofs.Closable.{closable}
 pub use Rattle.book_shares.proofs.Laws.{close-refused, close-closed, shares-handed, share-near-exact, close-sound}
 
--- a sound book
-abbrev Sound : List ℕ → Type 0
-Sound ws = sound ws ≡ true
-
 module _ (ws : List ℕ) where
+  -- where ground 1 does not hold, the book is there
+  there : not (sound ws) ≡ false → bookLength ≤ length ws
+  there e = sound-counted ws (not-false (sound ws) e) .long
+
+  -- a call leaves a sound book sound where an accepted one does
+  sound-either : (n : ℕ) (new : List ℕ) → ((n ≡ 0 → ⊥) → new ≡ ws) → (n ≡ 0 → Whole ws → Whole new) → sound ws ≡ true → sound new ≡ true
+  sound-either n new same made fine = either (λ b. sound b ≡ true) n new ws same (λ e. whole-sound new (made e (sound-whole ws fine))) fine
+
   -- fresh
   pub record Fresh (ws′ : List ℕ) : Type 0 where
     pub same-length : length ws′ ≡ length ws
@@ -68,32 +76,32 @@ module _ (ws : List ℕ) where
         same-length = length-set words 0 mark ∙ long;
         marked = getD-set-same words 0 mark 0 (omega (arith, long));
         cleared-words = λ k some inside.
-            getD-set-other words 0 k mark 0 (λ e. omega arith) ∙ List·getD-append (listBelow bookLength zeros) (drop bookLength ws) 0 k (omega (arith, list-length bookLength zeros)) ∙ list-at bookLength zeros k inside;
+            getD-set-other words 0 k mark 0 (λ e. omega arith)
+            ∙ List·getD-append (listBelow bookLength zeros) (drop bookLength ws) 0 k (omega (arith, list-length bookLength zeros))
+            ∙ list-at bookLength zeros k inside;
         rest-kept = λ k past. getD-set-other words 0 k mark 0 (λ e. omega arith) ∙ filled-past bookLength zeros ws k past;
       })
+
+  pub fresh-empty : bookLength ≤ length ws → (categories (freshBook ws) ≡ 0) × (entries (freshBook ws) ≡ 0) × (elements (freshBook ws) ≡ 0)
+  fresh-empty h =
+      let zero = fresh-made h .cleared-words in
+      (zero 1 (omega arith) (omega arith), zero 2 (omega arith) (omega arith), zero 3 (omega arith) (omega arith))
 
   pub fresh-sound : bookLength ≤ length ws → sound (freshBook ws) ≡ true
   unfolding allUnstruck sharesOf activities
   fresh-sound h =
       let new = freshBook ws in
       let made = fresh-made h in
-      let no-categories : categories new ≡ 0 = made .cleared-words 1 (omega arith) (omega arith) in
-      let no-entries : entries new ≡ 0 = made .cleared-words 2 (omega arith) (omega arith) in
-      let no-elements : elements new ≡ 0 = made .cleared-words 3 (omega arith) (omega arith) in
+      let none = fresh-empty h in
       whole-sound new
       (record {
-        counts = record {
-          long = omega (arith, made .same-length);
-          categories-most = omega arith;
-          entries-most = omega arith;
-          elements-most = omega arith;
-        };
+        counts = omega (arith, made .same-length);
         marked = made .marked;
         each-category = λ p i. let z : ⊥ = omega arith in absurd z;
         each-entry = λ p i. let z : ⊥ = omega arith in absurd z;
         each-element = λ p i. let z : ⊥ = omega arith in absurd z;
-        limited = λ s. rw (no-entries, no-elements) (omega arith);
-        active = rw no-elements (omega arith);
+        limited = λ s. rw (none .1, none .2) (omega arith);
+        active = rw (none .2) (omega arith);
         balanced = λ p i. let z : ⊥ = omega arith in absurd z;
       })
 
@@ -110,18 +118,17 @@ module _ (ws : List ℕ) where
     pub open-added : openRefusal ws kind ≡ 0 → CategoryAdded ws (openBook ws kind) (record { kind = kind; closed = 0 })
     unfolding openBook
     open-added e =
-        let ok = opened ws kind e in
-        rw e (category-added ws (sound-counted ws (ok .fine) .long) (record { kind = kind; closed = 0 }) (ok .room))
+        let none = opened ws kind e in
+        rw e (category-added ws (there (none 1)) (record { kind = kind; closed = 0 }) (leb-false mostCategories (categories ws) (none 8)))
 
     pub open-sound : sound ws ≡ true → sound (openBook ws kind) ≡ true
     unfolding categoryFine
-    open-sound fine =
-        either Sound (openRefusal ws kind) (openBook ws kind) ws open-refused
-        (λ e.
-        let ok = opened ws kind e in
-        whole-sound (openBook ws kind)
-        (open-keeps ws (openBook ws kind) (record { kind = kind; closed = 0 }) (sound-whole ws fine) (open-added e) (ok .room) (and-both (isKind kind) true (ok .known) refl) refl))
-        fine
+    open-sound =
+        sound-either (openRefusal ws kind) (openBook ws kind) open-refused
+        (λ e w.
+        let none = opened ws kind e in
+        open-keeps ws (openBook ws kind) (record { kind = kind; closed = 0 }) w (open-added e)
+        (leb-false mostCategories (categories ws) (none 8)) (and-both (isKind kind) true (not-false (isKind kind) (none 3)) refl) refl)
 
     -- an opening leaves the sums as they are
     pub open-sums : sumsOf (openBook ws kind) ≡ sumsOf ws
@@ -130,43 +137,28 @@ module _ (ws : List ℕ) where
         (λ e. category-sums ws (openBook ws kind) (record { kind = kind; closed = 0 }) (open-added e)) refl
 
   -- post
-  module _ (category group quantity operationFactor provisionFactor : ℕ) where
-    abbrev post-refusal : ℕ
-    post-refusal = postRefusal ws category group quantity operationFactor provisionFactor
-
-    abbrev post-book : List ℕ
-    post-book = postBook ws category group quantity operationFactor provisionFactor
-
-    abbrev post-entry : Entry
-    post-entry = postedEntry category group quantity operationFactor provisionFactor
-
-    pub post-refused : (post-refusal ≡ 0 → ⊥) → post-book ≡ ws
+  module _ (p : PostArguments) where
+    pub post-refused : (postRefusal ws p ≡ 0 → ⊥) → postBook ws p ≡ ws
     unfolding postBook
-    post-refused ne = refused-old post-refusal _ ws ne
+    post-refused ne = refused-old (postRefusal ws p) _ ws ne
 
-    pub post-added : post-refusal ≡ 0 → EntryAdded ws post-book post-entry
+    pub post-added : postRefusal ws p ≡ 0 → EntryAdded ws (postBook ws p) (postedEntry p)
     unfolding postBook
-    post-added e =
-        let ok = posted ws category group quantity operationFactor provisionFactor e in
-        rw e (entry-added ws (sound-counted ws (ok .fine) .long) post-entry (ok .room))
+    post-added e = let none = posted ws p e in rw e (entry-added ws (there (none 1)) (postedEntry p) (leb-false mostEntries (entries ws) (none 8)))
 
-    pub post-sound : sound ws ≡ true → sound post-book ≡ true
-    post-sound fine =
-        either Sound post-refusal post-book ws post-refused
-        (λ e.
-        let ok = posted ws category group quantity operationFactor provisionFactor e in
-        whole-sound post-book
-        (post-keeps ws post-book post-entry (sound-whole ws fine) (post-added e) (ok .room) (posted-fine e) (unclosed-zero ws category (ok .unclosed)) (within e)))
-        fine
-      where
-        within : post-refusal ≡ 0 → (s : Side) → emitted ws s + unstruck s post-entry ≤ largest
-        within e operation = posted-within ws category group quantity operationFactor provisionFactor e .0
-        within e provision = posted-within ws category group quantity operationFactor provisionFactor e .1
-
-        posted-fine : post-refusal ≡ 0 → entryFine ws post-entry ≡ true
-        posted-fine e =
-            let ok = posted ws category group quantity operationFactor provisionFactor e in
-            sym (entry-numbered ws post-entry (ok .numbered)) ∙ entry-suits (categoryOf ws category) post-entry (ok .known) (ok .suited) (omega (arith, within e operation)) (omega (arith, within e provision)) (omega arith)
+    pub post-sound : sound ws ≡ true → sound (postBook ws p) ≡ true
+    post-sound =
+        sound-either (postRefusal ws p) (postBook ws p) post-refused
+        (λ e w.
+        let none = posted ws p e in
+        let within = not-false (withinLimits (withEntry (sumsOf ws) (postedEntry p))) (none 10) in
+        let parts = within-parts (withEntry (sumsOf ws) (postedEntry p)) within in
+        let suits =
+        entry-suits (categoryOf ws (p .category)) (postedEntry p) (not-false (isGroup (p .group)) (none 3)) (none 6)
+        (omega (arith, parts .0)) (omega (arith, parts .1)) (omega arith) in
+        post-keeps ws (postBook ws p) (postedEntry p) w (post-added e) (leb-false mostEntries (entries ws) (none 8))
+        (sym (entry-numbered ws (postedEntry p) (not-false (between 1 (categories ws) (p .category)) (none 2))) ∙ suits)
+        (unclosed-zero ws (p .category) (none 4)) within)
 
   -- strike
   module _ (entry : ℕ) where
@@ -174,105 +166,95 @@ module _ (ws : List ℕ) where
     unfolding strikeBook
     strike-refused ne = refused-old (strikeRefusal ws entry) _ ws ne
 
+    struck-inside : strikeRefusal ws entry ≡ 0 → (1 ≤ entry) × (entry ≤ entries ws)
+    struck-inside e =
+        let numbered = not-false (between 1 (entries ws) entry) (struck ws entry e 2) in
+        (between-low 1 (entries ws) entry numbered, between-high 1 (entries ws) entry numbered)
+
+    -- the entry's category is open
+    pub struck-unclosed : strikeRefusal ws entry ≡ 0 → isClosed ws (entryAt ws (entry - 1) .category) ≡ false
+    struck-unclosed e =
+        let mine = entryAt ws (entry - 1) in
+        or-none (isClosed ws (mine .category)) (not (eqb (mine .struck) 0)) (struck ws entry e 4) .0
+
     pub strike-struck : strikeRefusal ws entry ≡ 0 → EntryStruck ws (strikeBook ws entry) (entry - 1)
     unfolding strikeBook
     strike-struck e =
-        let ok = struck ws entry e in
-        let counts = sound-counted ws (ok .fine) in
-        rw e
-        (entry-struck ws (counts .long) (entry - 1)
-        (omega (arith, counts, between-low 1 (entries ws) entry (ok .numbered), between-high 1 (entries ws) entry (ok .numbered))))
+        let counts = sound-counted ws (not-false (sound ws) (struck ws entry e 1)) in
+        rw e (entry-struck ws (counts .long) (entry - 1) (omega (arith, counts, struck-inside e)))
 
     pub strike-sound : sound ws ≡ true → sound (strikeBook ws entry) ≡ true
-    strike-sound fine =
-        either Sound (strikeRefusal ws entry) (strikeBook ws entry) ws strike-refused
-        (λ e.
-        let ok = struck ws entry e in
-        whole-sound (strikeBook ws entry)
-        (strike-keeps ws (strikeBook ws entry) (entry - 1) (sound-whole ws fine) (strike-struck e)
-        (omega (arith, between-low 1 (entries ws) entry (ok .numbered), between-high 1 (entries ws) entry (ok .numbered)))
-        (unclosed-zero ws (entryAt ws (entry - 1) .category) (ok .unclosed))))
-        fine
+    strike-sound =
+        sound-either (strikeRefusal ws entry) (strikeBook ws entry) strike-refused
+        (λ e w.
+        strike-keeps ws (strikeBook ws entry) (entry - 1) w (strike-struck e) (omega (arith, struck-inside e))
+        (unclosed-zero ws (entryAt ws (entry - 1) .category) (struck-unclosed e)))
 
   -- enrol
-  module _ (category chain code amount distance : ℕ) where
-    abbrev enrol-refusal : ℕ
-    enrol-refusal = enrolRefusal ws category chain code amount distance
+  module _ (e : EnrolArguments) where
+    abbrev enrolled-one : Element
+    enrolled-one = enrolledElement (categoryOf ws (e .category)) e
 
-    abbrev enrol-book : List ℕ
-    enrol-book = enrolBook ws category chain code amount distance
-
-    abbrev enrol-element : Element
-    enrol-element = enrolledElement ws category chain code amount distance
-
-    pub enrol-refused : (enrol-refusal ≡ 0 → ⊥) → enrol-book ≡ ws
+    pub enrol-refused : (enrolRefusal ws e ≡ 0 → ⊥) → enrolBook ws e ≡ ws
     unfolding enrolBook
-    enrol-refused ne = refused-old enrol-refusal _ ws ne
+    enrol-refused ne = refused-old (enrolRefusal ws e) _ ws ne
 
-    pub enrol-added : enrol-refusal ≡ 0 → ElementAdded ws enrol-book enrol-element
+    pub enrol-added : enrolRefusal ws e ≡ 0 → ElementAdded ws (enrolBook ws e) enrolled-one
     unfolding enrolBook
-    enrol-added e =
-        let ok = enrolled ws category chain code amount distance e in
-        rw e (element-added ws (sound-counted ws (ok .fine) .long) enrol-element (ok .room))
+    enrol-added z = let none = enrolled ws e z in rw z (element-added ws (there (none 1)) enrolled-one (leb-false mostElements (elements ws) (none 8)))
 
-    pub enrol-sound : sound ws ≡ true → sound enrol-book ≡ true
-    enrol-sound fine =
-        either Sound enrol-refusal enrol-book ws enrol-refused
-        (λ e.
-        let ok = enrolled ws category chain code amount distance e in
-        let whole = sound-whole ws fine in
-        whole-sound enrol-book
-        (element-keeps ws enrol-book enrol-element whole (enrol-added e) (ok .room) (enrolled-fine ok)
-        (λ s. rw (nothing 0 s, add-zero) (whole .limited s)) (enrolled-within ws category chain code amount distance e) (λ p s. nothing (p + 1) s)))
-        fine
+    -- an enrolled element keeps its rules
+    enrolled-fine : enrolRefusal ws e ≡ 0 → elementFine ws enrolled-one ≡ true
+    enrolled-fine z =
+        let none = enrolled ws e z in
+        let category = categoryOf ws (e .category) in
+        let numbered = not-false (between 1 (categories ws) (e .category)) (none 2) in
+        let known = both (isChain (e .chain)) (isCode (e .code)) (not-false (isChain (e .chain) && isCode (e .code)) (none 3)) in
+        let amount = isAmount (e .code) (e .amount) in
+        let distance = isDistance (category .kind) (e .distance) in
+        let measured = both amount distance (not-false (amount && distance) (none 7)) in
+        let low = between-low 1 (categories ws) (e .category) numbered in
+        sym (element-numbered ws enrolled-one (λ is. omega arith) (between-high 1 (categories ws) (e .category) numbered))
+        ∙ element-suits category enrolled-one (known .0) (known .1) (none 6) (measured .0) (measured .1) refl
+        (unclosed-zero ws (e .category) (none 4)) refl refl
+
+    pub enrol-sound : sound ws ≡ true → sound (enrolBook ws e) ≡ true
+    enrol-sound =
+        sound-either (enrolRefusal ws e) (enrolBook ws e) enrol-refused
+        (λ z w.
+        let none = enrolled ws e z in
+        element-keeps ws (enrolBook ws e) enrolled-one w (enrol-added z) (leb-false mostElements (elements ws) (none 8)) (enrolled-fine z)
+        (not-false (withinLimits (withElement (sumsOf ws) enrolled-one)) (none 10)) (λ p s. rw (share s) (cond-same (eqb (e .category) (p + 1)) 0)))
       where
-        share : (s : Side) → shareOf s enrol-element ≡ 0
+        share : (s : Side) → shareOf s enrolled-one ≡ 0
         share operation = refl
         share provision = refl
 
-        nothing : (k : ℕ) (s : Side) → cond (eqb category k) (shareOf s enrol-element) 0 ≡ 0
-        nothing k s = rw (share s) (cond-same (eqb category k) 0)
-
-        enrolled-fine : Enrolled ws category chain code amount distance → elementFine ws enrol-element ≡ true
-        enrolled-fine ok =
-            sym (element-numbered ws enrol-element (λ e. omega (arith, between-low 1 (categories ws) category (ok .numbered))) (between-high 1 (categories ws) category (ok .numbered)))
-            ∙ element-suits (categoryOf ws category) enrol-element (ok .known-chain) (ok .known-code) (ok .suited) (ok .amount-fine) (ok .distance-fine) refl (unclosed-zero ws category (ok .unclosed)) refl refl
-
   -- quote
-  module _ (chain adjust mass distance operationIntensity provisionIntensity : ℕ) where
-    abbrev quote-refusal : ℕ
-    quote-refusal = quoteRefusal ws chain adjust mass distance operationIntensity provisionIntensity
-
-    abbrev quote-book : List ℕ
-    quote-book = quoteBook ws chain adjust mass distance operationIntensity provisionIntensity
-
-    abbrev quote-element : Element
-    quote-element = quotedElement chain adjust mass distance operationIntensity provisionIntensity
-
-    pub quote-refused : (quote-refusal ≡ 0 → ⊥) → quote-book ≡ ws
+  module _ (q : QuoteArguments) where
+    pub quote-refused : (quoteRefusal ws q ≡ 0 → ⊥) → quoteBook ws q ≡ ws
     unfolding quoteBook
-    quote-refused ne = refused-old quote-refusal _ ws ne
+    quote-refused ne = refused-old (quoteRefusal ws q) _ ws ne
 
-    pub quote-added : quote-refusal ≡ 0 → ElementAdded ws quote-book quote-element
+    pub quote-added : quoteRefusal ws q ≡ 0 → ElementAdded ws (quoteBook ws q) (quotedElement q)
     unfolding quoteBook
-    quote-added e =
-        let ok = quoted ws chain adjust mass distance operationIntensity provisionIntensity e in
-        rw e (element-added ws (sound-counted ws (ok .fine) .long) quote-element (ok .room))
+    quote-added e = let none = quoted ws q e in rw e (element-added ws (there (none 1)) (quotedElement q) (leb-false mostElements (elements ws) (none 8)))
 
-    pub quote-sound : sound ws ≡ true → sound quote-book ≡ true
-    quote-sound fine =
-        either Sound quote-refusal quote-book ws quote-refused
-        (λ e.
-        let ok = quoted ws chain adjust mass distance operationIntensity provisionIntensity e in
-        whole-sound quote-book
-        (element-keeps ws quote-book quote-element (sound-whole ws fine) (quote-added e) (ok .room)
-        (sym (element-quoted ws quote-element refl) ∙ quoted-suits quote-element (ok .known-chain) (ok .amount-fine) (ok .distance-fine) refl refl)
-        (within e) (quoted-within ws chain adjust mass distance operationIntensity provisionIntensity e) (λ p s. rw (ne-eqb 0 (p + 1) (λ z. omega arith)))))
-        fine
-      where
-        within : quote-refusal ≡ 0 → (s : Side) → emitted ws s + shareOf s quote-element ≤ largest
-        within e operation = quoted-amounts ws chain adjust mass distance operationIntensity provisionIntensity e .0
-        within e provision = quoted-amounts ws chain adjust mass distance operationIntensity provisionIntensity e .1
+    -- a quoted element keeps its rules
+    quoted-fine : quoteRefusal ws q ≡ 0 → elementFine ws (quotedElement q) ≡ true
+    quoted-fine e =
+        let none = quoted ws q e in
+        let known = both (isChain (q .chain)) (isAdjust (q .adjust)) (not-false (isChain (q .chain) && isAdjust (q .adjust)) (none 3)) in
+        let measured = quote-measured q (none 7) in
+        sym (element-quoted ws (quotedElement q) refl) ∙ quoted-suits (quotedElement q) (known .0) (measured .0) (measured .1) refl refl
+
+    pub quote-sound : sound ws ≡ true → sound (quoteBook ws q) ≡ true
+    quote-sound =
+        sound-either (quoteRefusal ws q) (quoteBook ws q) quote-refused
+        (λ e w.
+        let none = quoted ws q e in
+        element-keeps ws (quoteBook ws q) (quotedElement q) w (quote-added e) (leb-false mostElements (elements ws) (none 8)) (quoted-fine e)
+        (not-false (withinLimits (withElement (sumsOf ws) (quotedElement q))) (none 10)) (λ p s. rw (ne-eqb 0 (p + 1) (λ z. omega arith))))
 
   -- a closing leaves the sums as they are
   pub close-sums : (category : ℕ) → sumsOf (closeBook ws category) ≡ sumsOf ws
@@ -299,7 +281,8 @@ module _ (ws : List ℕ) where
     statement-accepted fine known = rw (fine, known)
 
     -- "zeros for an unused chain"
-    pub statement-unused : sound ws ≡ true → isChain chain ≡ true → ((p : ℕ) → p < elements ws → elementAt ws p .chain ≡ chain → ⊥) → statementReply ws chain ≡ zerosBeside 0
+    pub statement-unused : sound ws ≡ true → isChain chain ≡ true → ((p : ℕ) → p < elements ws → elementAt ws p .chain ≡ chain → ⊥)
+        → statementReply ws chain ≡ zerosBeside 0
     unfolding statementOf elementsOn waitingOn sharesOn
     statement-unused fine known unused =
         let none : (p : ℕ) → p < elements ws → ofChain chain (elementAt ws p) ≡ false = λ p h. ne-eqb (elementAt ws p .chain) chain (unused p h) in

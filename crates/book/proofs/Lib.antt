@@ -3,7 +3,7 @@ pub mod Quotes
 pub mod Refusing
 pub mod Accepting
 pub mod Admitting
-pub mod Keeping
 pub mod Counting
+pub mod Keeping
 pub mod Laws
 pub mod Walking

@@ -1,9 +1,9 @@
 -- What the walk of a statement holds after the first n elements: the counts and sums over the chain's elements among them.
 -- Assumes nothing.
-use mathlib.Core.Bool.{true, cond, _&&_, Bool, not, Bool·not-not}
+use mathlib.Core.Bool.{true, false, cond, _&&_, Bool, not, Bool·not-not}
 use mathlib.Core.List.{List}
 use mathlib.Core.Logic.{⊎-elim}
-use mathlib.Core.Path.{_≡_, refl, _∙_, ap, sym}
+use mathlib.Core.Path.{_≡_, refl, ap, sym}
 use Prim.Native.Nat.{ℕ, _≤_, _<_, _+_}
 use native.Mathlib.Nat.{add-zero, eq-zero-or-pos}
 use native.Mathlib.Omega.{arith}
@@ -31,8 +31,11 @@ waits-told ws e r is inside t h =
     ⊎-elim
     (λ (none : e .category ≡ 0). rw (← h, eq-eqb (e .category) 0 none))
     (λ (some : 0 < e .category).
-    let there = category-there ws (e .category) r is (and-both (leb 1 (e .category)) (leb (e .category) (categories ws)) (le-leb 1 (e .category) some) (le-leb (e .category) (categories ws) inside)) in
-    rw (← h, ap (λ (x : Category). x .closed) there) (ap (λ (b : Bool). oneIf (not (eqb (e .category) 0) && b)) (sym (Bool·not-not (eqb (categoryOf ws (e .category) .closed) 0)))))
+    let low = le-leb 1 (e .category) some in
+    let high = le-leb (e .category) (categories ws) inside in
+    let there = category-there ws (e .category) r is (and-both (leb 1 (e .category)) (leb (e .category) (categories ws)) low high) in
+    let unclosed = sym (Bool·not-not (eqb (categoryOf ws (e .category) .closed) 0)) in
+    rw (← h, ap (λ (x : Category). x .closed) there) (ap (λ (b : Bool). oneIf (not (eqb (e .category) 0) && b)) unclosed))
     (eq-zero-or-pos (e .category))
 
 -- the share of the element at a place, where it is of the chain
@@ -50,41 +53,28 @@ module _ (ws : List ℕ) (chain : ℕ) where
   pub walked-start : Walked ws chain 0 0 0 0 0
   walked-start = record { inside = omega arith; all-counted = refl; all-waiting = refl; all-operation = refl; all-provision = refl }
 
-  -- one element more of the chain
-  shares-own : (n : ℕ) (side : Side) → elementAt ws n .chain ≡ chain → sumBelow (n + 1) (ownShare ws chain side) ≡ sumBelow n (ownShare ws chain side) + shareOf side (elementAt ws n)
-  shares-own n side own =
-      sum-next n (ownShare ws chain side) ∙ rw (eq-eqb (elementAt ws n .chain) chain own)
+  -- one element more, of the chain or not
+  module _ {n counted waiting byOperation byProvision : ℕ} (w : Walked ws chain n counted waiting byOperation byProvision) (h : n < elements ws)
+      (e : Element) (is : e ≡ elementAt ws n) where
+    next : (t : Bool) → ofChain chain e ≡ t
+        → Walked ws chain (n + 1) (counted + oneIf t) (waiting + oneIf (t && waits ws e)) (byOperation + cond t (e .operation) 0)
+        (byProvision + cond t (e .provision) 0)
+    next t own =
+        rw (← own, is)
+        (record {
+          inside = omega arith;
+          all-counted = rw (w .all-counted, sum-next n (λ p. oneIf (ofChain chain (elementAt ws p))));
+          all-waiting = rw (w .all-waiting, sum-next n (λ p. oneIf (ofChain chain (elementAt ws p) && waits ws (elementAt ws p))));
+          all-operation = rw (w .all-operation, sum-next n (ownShare ws chain operation));
+          all-provision = rw (w .all-provision, sum-next n (ownShare ws chain provision));
+        })
 
-  pub walked-own : {n counted waiting byOperation byProvision : ℕ} → Walked ws chain n counted waiting byOperation byProvision → n < elements ws
-      → (e : Element) → e ≡ elementAt ws n → e .chain ≡ chain → (one : ℕ) → one ≡ oneIf (waits ws e)
-      → Walked ws chain (n + 1) (counted + 1) (waiting + one) (byOperation + e .operation) (byProvision + e .provision)
-  walked-own {n} w h e is own one waited =
-      let mine = ap (λ (r : Element). r .chain) (sym is) ∙ own in
-      rw (waited, is)
-      (record {
-        inside = omega arith;
-        all-counted = rw (w .all-counted, sum-next n (λ p. oneIf (ofChain chain (elementAt ws p))), eq-eqb (elementAt ws n .chain) chain mine);
-        all-waiting = rw (w .all-waiting, sum-next n (λ p. oneIf (ofChain chain (elementAt ws p) && waits ws (elementAt ws p))), eq-eqb (elementAt ws n .chain) chain mine);
-        all-operation = rw (w .all-operation, shares-own n operation mine);
-        all-provision = rw (w .all-provision, shares-own n provision mine);
-      })
+    pub walked-own : e .chain ≡ chain → (one : ℕ) → one ≡ oneIf (waits ws e)
+        → Walked ws chain (n + 1) (counted + 1) (waiting + one) (byOperation + e .operation) (byProvision + e .provision)
+    walked-own own one waited = rw waited (next true (eq-eqb (e .chain) chain own))
 
-  -- one of another chain
-  shares-other : (n : ℕ) (side : Side) → (elementAt ws n .chain ≡ chain → ⊥) → sumBelow (n + 1) (ownShare ws chain side) ≡ sumBelow n (ownShare ws chain side)
-  shares-other n side other =
-      sum-next n (ownShare ws chain side) ∙ rw (ne-eqb (elementAt ws n .chain) chain other, add-zero)
-
-  pub walked-other : {n counted waiting byOperation byProvision : ℕ} → Walked ws chain n counted waiting byOperation byProvision → n < elements ws
-      → (e : Element) → e ≡ elementAt ws n → (e .chain ≡ chain → ⊥) → Walked ws chain (n + 1) counted waiting byOperation byProvision
-  walked-other {n} w h e is ne =
-      let other : elementAt ws n .chain ≡ chain → ⊥ = λ z. ne (ap (λ (r : Element). r .chain) is ∙ z) in
-      record {
-        inside = omega arith;
-        all-counted = w .all-counted ∙ rw (sum-next n (λ p. oneIf (ofChain chain (elementAt ws p))), ne-eqb (elementAt ws n .chain) chain other, add-zero);
-        all-waiting = w .all-waiting ∙ rw (sum-next n (λ p. oneIf (ofChain chain (elementAt ws p) && waits ws (elementAt ws p))), ne-eqb (elementAt ws n .chain) chain other, add-zero);
-        all-operation = w .all-operation ∙ rw (shares-other n operation other);
-        all-provision = w .all-provision ∙ rw (shares-other n provision other);
-      }
+    pub walked-other : (e .chain ≡ chain → ⊥) → Walked ws chain (n + 1) counted waiting byOperation byProvision
+    walked-other ne = simp add-zero at (next false (ne-eqb (e .chain) chain ne))
 
   -- the shares of a chain among the first elements are within 10^18
   shares-most : sound ws ≡ true → (n : ℕ) → n ≤ elements ws → (side : Side) → sumBelow n (ownShare ws chain side) ≤ largest
@@ -114,7 +104,9 @@ module _ (ws : List ℕ) (chain : ℕ) where
 
   -- after all elements it is the statement
   pub walked-done : {n counted waiting byOperation byProvision : ℕ} → Walked ws chain n counted waiting byOperation byProvision → elements ws ≤ n
-      → _≡_ {A = Statement} (record { refusal = 0; elements = counted; waiting = waiting; operation = byOperation; provision = byProvision; total = byOperation + byProvision }) (statementOf ws chain)
+      → _≡_ {A = Statement}
+      (record { refusal = 0; elements = counted; waiting = waiting; operation = byOperation; provision = byProvision; total = byOperation + byProvision })
+      (statementOf ws chain)
   unfolding statementOf elementsOn waitingOn sharesOn
   walked-done {n} w h =
       let end : n ≡ elements ws = omega (arith, w .inside) in

@@ -8,12 +8,16 @@ use lib.Dec.{ltb, leb, eqb}
 use lib.ListN.{drop, length, set}
 use Rattle.apportion.specs.Grounds.{accepted, Ground, firstOf}
 use Rattle.apportion.specs.Places.{listBelow}
-use Rattle.book_words.specs.Book.{bookLength, mark, mostCategories, categories, addCategory, categoryOf, mostEntries, entries, addEntry, entryOf, strikeEntry, mostElements, elements, addElement, unnumbered, isClosed}
+use Rattle.book_words.specs.Book.{bookLength, mark, mostCategories, categories, addCategory, categoryOf, mostEntries, entries, addEntry, entryOf, strikeEntry, mostElements, elements, addElement, unnumbered, hasClosed}
 use Rattle.book_words.specs.Measures.{isKind, isGroup, unsuitedGroup, unsuited, isQuantity, isFactor, activityOf, isChain, isCode, isAmount, isDistance, nearest, isAdjust, isIntensity}
 use Rattle.book_words.specs.Soundness.{sound}
-use Rattle.book_words.specs.Totals.{passesAmounts, passesActivity}
+use Rattle.book_words.specs.Totals.{Side, operation, provision, passesLimits, sumsOf, withEntry, withElement}
+use Rattle.book_words.specs.declared.records.Category.{Category}
 use Rattle.book_words.specs.declared.records.Element.{Element}
 use Rattle.book_words.specs.declared.records.Entry.{Entry}
+use Rattle.book.specs.declared.arguments.EnrolArguments.{EnrolArguments}
+use Rattle.book.specs.declared.arguments.PostArguments.{PostArguments}
+use Rattle.book.specs.declared.arguments.QuoteArguments.{QuoteArguments}
 use Rattle.book.specs.declared.replies.Reply.{Reply}
 
 -- "A refusal returns its number with zeros": the reply of a call that returns a record's number
@@ -50,92 +54,97 @@ openReply ws kind = replyOf (openRefusal ws kind) (categories ws + 1)
 unfoldable pub openBook : List ℕ → ℕ → List ℕ
 openBook ws kind = accepted (openRefusal ws kind) (addCategory ws (record { kind = kind; closed = 0 })) ws
 
--- "**post** (category, group, quantity, operation factor, provision factor)"; "quantity × factor is µg"
-abbrev pub postGrounds : List ℕ → ℕ → ℕ → ℕ → ℕ → ℕ → List Ground
-postGrounds ws category group quantity operationFactor provisionFactor =
-    (1, not (sound ws))
-    ∷ (2, unnumbered (categories ws) category)
-    ∷ (3, not (isGroup group))
-    ∷ (4, isClosed ws category)
-    ∷ (6, unsuitedGroup (categoryOf ws category .kind) group)
-    ∷ (7, not (isQuantity quantity && isFactor operationFactor && isFactor provisionFactor))
-    ∷ (8, leb mostEntries (entries ws))
-    ∷ (10, passesAmounts ws (quantity * operationFactor) (quantity * provisionFactor))
-    ∷ []
+-- "quantity × factor is µg"
+abbrev pub postedAmount : Side → PostArguments → ℕ
+postedAmount operation p = p .quantity * p .«operation_factor»
+postedAmount provision p = p .quantity * p .«provision_factor»
 
-unfoldable pub postRefusal : List ℕ → ℕ → ℕ → ℕ → ℕ → ℕ → ℕ
-postRefusal ws category group quantity operationFactor provisionFactor =
-    firstOf (postGrounds ws category group quantity operationFactor provisionFactor)
-
-unfoldable pub postReply : List ℕ → ℕ → ℕ → ℕ → ℕ → ℕ → Reply
-postReply ws category group quantity operationFactor provisionFactor =
-    replyOf (postRefusal ws category group quantity operationFactor provisionFactor) (entries ws + 1)
-
-abbrev pub postedEntry : ℕ → ℕ → ℕ → ℕ → ℕ → Entry
-postedEntry category group quantity operationFactor provisionFactor =
+-- "**post** (category, group, quantity, operation factor, provision factor)"
+abbrev pub postedEntry : PostArguments → Entry
+postedEntry p =
     record {
-      category = category;
-      group = group;
-      operation = quantity * operationFactor;
-      provision = quantity * provisionFactor;
+      category = p .category;
+      group = p .group;
+      operation = postedAmount operation p;
+      provision = postedAmount provision p;
       struck = 0;
     }
 
-unfoldable pub postBook : List ℕ → ℕ → ℕ → ℕ → ℕ → ℕ → List ℕ
-postBook ws category group quantity operationFactor provisionFactor =
-    accepted
-    (postRefusal ws category group quantity operationFactor provisionFactor)
-    (addEntry ws (postedEntry category group quantity operationFactor provisionFactor))
-    ws
+-- `here` is the record of the category that is posted to
+abbrev pub postGroundsIn : List ℕ → PostArguments → Category → List Ground
+postGroundsIn ws p here =
+    (1, not (sound ws))
+    ∷ (2, unnumbered (categories ws) (p .category))
+    ∷ (3, not (isGroup (p .group)))
+    ∷ (4, hasClosed here)
+    ∷ (6, unsuitedGroup (here .kind) (p .group))
+    ∷ (7, not (isQuantity (p .quantity) && isFactor (p .«operation_factor») && isFactor (p .«provision_factor»)))
+    ∷ (8, leb mostEntries (entries ws))
+    ∷ (10, passesLimits (withEntry (sumsOf ws) (postedEntry p)))
+    ∷ []
 
--- "**enrol** (category, chain, code, amount, distance)"
-abbrev pub enrolledElement : List ℕ → ℕ → ℕ → ℕ → ℕ → ℕ → Element
-enrolledElement ws category chain code amount distance =
+abbrev pub postGrounds : List ℕ → PostArguments → List Ground
+postGrounds ws p = postGroundsIn ws p (categoryOf ws (p .category))
+
+unfoldable pub postRefusal : List ℕ → PostArguments → ℕ
+postRefusal ws p = firstOf (postGrounds ws p)
+
+unfoldable pub postReply : List ℕ → PostArguments → Reply
+postReply ws p = replyOf (postRefusal ws p) (entries ws + 1)
+
+unfoldable pub postBook : List ℕ → PostArguments → List ℕ
+postBook ws p = accepted (postRefusal ws p) (addEntry ws (postedEntry p)) ws
+
+-- "**enrol** (category, chain, code, amount, distance)"; `here` is the record of the category
+abbrev pub enrolledElement : Category → EnrolArguments → Element
+enrolledElement here e =
     record {
-      category = category;
-      chain = chain;
-      code = code;
-      amount = amount;
-      distance = distance;
-      activity = activityOf (categoryOf ws category .kind) code amount distance;
+      category = e .category;
+      chain = e .chain;
+      code = e .code;
+      amount = e .amount;
+      distance = e .distance;
+      activity = activityOf (here .kind) (e .code) (e .amount) (e .distance);
       operation = 0;
       provision = 0;
     }
 
-abbrev pub enrolGrounds : List ℕ → ℕ → ℕ → ℕ → ℕ → ℕ → List Ground
-enrolGrounds ws category chain code amount distance =
+abbrev pub enrolGroundsIn : List ℕ → EnrolArguments → Category → List Ground
+enrolGroundsIn ws e here =
     (1, not (sound ws))
-    ∷ (2, unnumbered (categories ws) category)
-    ∷ (3, not (isChain chain && isCode code))
-    ∷ (4, isClosed ws category)
-    ∷ (6, unsuited (categoryOf ws category .kind) code)
-    ∷ (7, not (isAmount code amount && isDistance (categoryOf ws category .kind) distance))
+    ∷ (2, unnumbered (categories ws) (e .category))
+    ∷ (3, not (isChain (e .chain) && isCode (e .code)))
+    ∷ (4, hasClosed here)
+    ∷ (6, unsuited (here .kind) (e .code))
+    ∷ (7, not (isAmount (e .code) (e .amount) && isDistance (here .kind) (e .distance)))
     ∷ (8, leb mostElements (elements ws))
-    ∷ (10, passesActivity ws (enrolledElement ws category chain code amount distance))
+    ∷ (10, passesLimits (withElement (sumsOf ws) (enrolledElement here e)))
     ∷ []
 
-unfoldable pub enrolRefusal : List ℕ → ℕ → ℕ → ℕ → ℕ → ℕ → ℕ
-enrolRefusal ws category chain code amount distance =
-    firstOf (enrolGrounds ws category chain code amount distance)
+abbrev pub enrolGrounds : List ℕ → EnrolArguments → List Ground
+enrolGrounds ws e = enrolGroundsIn ws e (categoryOf ws (e .category))
 
-unfoldable pub enrolReply : List ℕ → ℕ → ℕ → ℕ → ℕ → ℕ → Reply
-enrolReply ws category chain code amount distance =
-    replyOf (enrolRefusal ws category chain code amount distance) (elements ws + 1)
+unfoldable pub enrolRefusal : List ℕ → EnrolArguments → ℕ
+enrolRefusal ws e = firstOf (enrolGrounds ws e)
 
-unfoldable pub enrolBook : List ℕ → ℕ → ℕ → ℕ → ℕ → ℕ → List ℕ
-enrolBook ws category chain code amount distance =
-    accepted
-    (enrolRefusal ws category chain code amount distance)
-    (addElement ws (enrolledElement ws category chain code amount distance))
-    ws
+unfoldable pub enrolReply : List ℕ → EnrolArguments → Reply
+enrolReply ws e = replyOf (enrolRefusal ws e) (elements ws + 1)
 
--- "**Strike** (entry) sets its struck word; the record still counts towards 64."
-abbrev pub strikeGrounds : List ℕ → ℕ → List Ground
-strikeGrounds ws entry =
+unfoldable pub enrolBook : List ℕ → EnrolArguments → List ℕ
+enrolBook ws e =
+    accepted (enrolRefusal ws e) (addElement ws (enrolledElement (categoryOf ws (e .category)) e)) ws
+
+-- "**Strike** (entry) sets its struck word; the record still counts towards 64." `named` is the record of the entry, and `here`
+-- that of its category
+abbrev pub strikeGroundsIn : List ℕ → ℕ → Entry → Category → List Ground
+strikeGroundsIn ws entry named here =
     (1, not (sound ws))
     ∷ (2, unnumbered (entries ws) entry)
-    ∷ (4, isClosed ws (entryOf ws entry .category) || not (eqb (entryOf ws entry .struck) 0))
+    ∷ (4, hasClosed here || not (eqb (named .struck) 0))
     ∷ []
+
+abbrev pub strikeGrounds : List ℕ → ℕ → List Ground
+strikeGrounds ws entry = strikeGroundsIn ws entry (entryOf ws entry) (categoryOf ws (entryOf ws entry .category))
 
 unfoldable pub strikeRefusal : List ℕ → ℕ → ℕ
 strikeRefusal ws entry = firstOf (strikeGrounds ws entry)
@@ -144,53 +153,54 @@ unfoldable pub strikeBook : List ℕ → ℕ → List ℕ
 strikeBook ws entry = accepted (strikeRefusal ws entry) (strikeEntry ws entry) ws
 
 -- "D is the distance, or with adjust 1 the distance plus 95,000 (the air default, Annex A.3.2)."
-abbrev pub adjusted : ℕ → ℕ → ℕ
-adjusted adjust distance = cond (eqb adjust 1) (distance + 95_000) distance
+abbrev pub adjusted : QuoteArguments → ℕ
+adjusted q = cond (eqb (q .adjust) 1) (q .distance + 95_000) (q .distance)
+
+-- "two intensities in mg per tonne-km", by their sides
+abbrev pub quotedIntensity : Side → QuoteArguments → ℕ
+quotedIntensity operation q = q .«operation_intensity»
+quotedIntensity provision q = q .«provision_intensity»
 
 -- "shares (intensity × mass × D / 1000), nearest, halves up"
-unfoldable pub quotedAmount : ℕ → ℕ → ℕ → ℕ → ℕ
-quotedAmount adjust mass distance intensity = nearest (intensity * mass * adjusted adjust distance) 1000
+unfoldable pub quotedAmount : Side → QuoteArguments → ℕ
+quotedAmount side q = nearest (quotedIntensity side q * q .mass * adjusted q) 1000
 
 -- "**Quote** (chain, adjust, mass, distance, two intensities in mg per tonne-km) appends an element of category 0, code 0";
 -- "Its activity is mass × distance."
-abbrev pub quotedElement : ℕ → ℕ → ℕ → ℕ → ℕ → ℕ → Element
-quotedElement chain adjust mass distance operationIntensity provisionIntensity =
+abbrev pub quotedElement : QuoteArguments → Element
+quotedElement q =
     record {
       category = 0;
-      chain = chain;
+      chain = q .chain;
       code = 0;
-      amount = mass;
-      distance = distance;
-      activity = mass * distance;
-      operation = quotedAmount adjust mass distance operationIntensity;
-      provision = quotedAmount adjust mass distance provisionIntensity;
+      amount = q .mass;
+      distance = q .distance;
+      activity = q .mass * q .distance;
+      operation = quotedAmount operation q;
+      provision = quotedAmount provision q;
     }
 
 -- a quote is measured as freight (code 0) outside a hub (kind 1)
-abbrev pub quoteGrounds : List ℕ → ℕ → ℕ → ℕ → ℕ → ℕ → ℕ → List Ground
-quoteGrounds ws chain adjust mass distance operationIntensity provisionIntensity =
+abbrev pub quoteGrounds : List ℕ → QuoteArguments → List Ground
+quoteGrounds ws q =
     (1, not (sound ws))
-    ∷ (3, not (isChain chain && isAdjust adjust))
-    ∷ (7, not (isAmount 0 mass && isDistance 1 distance && isIntensity operationIntensity && isIntensity provisionIntensity))
-    ∷ (8, leb mostElements (elements ws))
+    ∷ (3, not (isChain (q .chain) && isAdjust (q .adjust)))
     ∷ (
-      10,
-      passesAmounts ws (quotedAmount adjust mass distance operationIntensity) (quotedAmount adjust mass distance provisionIntensity)
-          || passesActivity ws (quotedElement chain adjust mass distance operationIntensity provisionIntensity),
+      7,
+      not (isAmount 0 (q .mass)
+          && isDistance 1 (q .distance)
+          && isIntensity (q .«operation_intensity»)
+          && isIntensity (q .«provision_intensity»)),
     )
+    ∷ (8, leb mostElements (elements ws))
+    ∷ (10, passesLimits (withElement (sumsOf ws) (quotedElement q)))
     ∷ []
 
-unfoldable pub quoteRefusal : List ℕ → ℕ → ℕ → ℕ → ℕ → ℕ → ℕ → ℕ
-quoteRefusal ws chain adjust mass distance operationIntensity provisionIntensity =
-    firstOf (quoteGrounds ws chain adjust mass distance operationIntensity provisionIntensity)
+unfoldable pub quoteRefusal : List ℕ → QuoteArguments → ℕ
+quoteRefusal ws q = firstOf (quoteGrounds ws q)
 
-unfoldable pub quoteReply : List ℕ → ℕ → ℕ → ℕ → ℕ → ℕ → ℕ → Reply
-quoteReply ws chain adjust mass distance operationIntensity provisionIntensity =
-    replyOf (quoteRefusal ws chain adjust mass distance operationIntensity provisionIntensity) (elements ws + 1)
+unfoldable pub quoteReply : List ℕ → QuoteArguments → Reply
+quoteReply ws q = replyOf (quoteRefusal ws q) (elements ws + 1)
 
-unfoldable pub quoteBook : List ℕ → ℕ → ℕ → ℕ → ℕ → ℕ → ℕ → List ℕ
-quoteBook ws chain adjust mass distance operationIntensity provisionIntensity =
-    accepted
-    (quoteRefusal ws chain adjust mass distance operationIntensity provisionIntensity)
-    (addElement ws (quotedElement chain adjust mass distance operationIntensity provisionIntensity))
-    ws
+unfoldable pub quoteBook : List ℕ → QuoteArguments → List ℕ
+quoteBook ws q = accepted (quoteRefusal ws q) (addElement ws (quotedElement q)) ws

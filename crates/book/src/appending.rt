@@ -5,7 +5,7 @@ ghost use mathlib.Core.Path.{_≡_};
 ghost use Prim.Native.Nat.{_≤_, _<_, _+_};
 ghost use lib.ListN.{length};
 ghost use Rattle.apportion.specs.Grounds.{accepted};
-ghost use Rattle.book_words.specs.Book.{bookLength, categories, mostCategories, addCategory, entries, mostEntries, addEntry, elements, mostElements, addElement};
+ghost use Rattle.book_words.specs.Book.{bookLength, countOf, startOf, appended, categories, mostCategories, addCategory, entries, mostEntries, addEntry, elements, mostElements, addElement};
 ghost use Rattle.book_words.specs.Soundness.{sound};
 ghost use Rattle.book_words.specs.Totals.{sumsOf, withEntry, withElement};
 ghost use Rattle.book.specs.Calls.{replyOf};
@@ -13,10 +13,36 @@ ghost use Rattle.book.specs.Appending.{tenOf};
 use crate::replies;
 use crate::replies::Counted;
 use crate::replies::Reply;
+use book_words::CATEGORY_LIST;
 use book_words::Category;
+use book_words::ELEMENT_LIST;
+use book_words::ENTRY_LIST;
 use book_words::Element;
 use book_words::Entry;
+use book_words::Layout;
 use book_words::Sums;
+
+// Appends a record of these words to a list, and answers its number.
+fn append(book: &mut [u64], list: Layout, words: &[u64]) -> Reply
+    requires { ⌜ (bookLength ≤ length (now book)) × (countOf (now book) list < mostElements) ⌝ }
+    requires { ⌜ (list .counter < list .first) × (startOf list (countOf (now book) list) + length (now words) ≤ bookLength) ⌝ }
+    ensures { λ r. ⌜ r ≡ replyOf 0 (countOf (now (book .entry)) list + 1) ⌝ }
+    ensures { λ _. ⌜ now (book .exit) ≡ appended (now (book .entry)) list (now (words .entry)) ⌝ }
+{
+    let counter = list.counter;
+    let count = book[counter];
+    let start = list.first + list.width * (count as usize);
+    let mut next = 0;
+    while next < words.len() {
+        book[start + next] = words[next];
+        next += 1;
+    }
+    book[counter] = count + 1;
+    Reply {
+        refusal: 0,
+        number: count + 1,
+    }
+}
 
 // Appends a category and answers its number.
 pub fn add_category(book: &mut [u64], added: Category) -> Reply
@@ -24,15 +50,7 @@ pub fn add_category(book: &mut [u64], added: Category) -> Reply
     ensures { λ r. ⌜ r ≡ replyOf 0 (categories (now (book .entry)) + 1) ⌝ }
     ensures { λ _. ⌜ now (book .exit) ≡ addCategory (now (book .entry)) added ⌝ }
 {
-    let count = book[book_words::CATEGORIES];
-    let at = book_words::FIRST_CATEGORY + book_words::CATEGORY_WORDS * (count as usize);
-    book[at] = added.kind;
-    book[at + 1] = added.closed;
-    book[book_words::CATEGORIES] = count + 1;
-    Reply {
-        refusal: 0,
-        number: count + 1,
-    }
+    append(book, CATEGORY_LIST, &[added.kind, added.closed])
 }
 
 // Appends an entry and answers its number.
@@ -41,18 +59,17 @@ pub fn add_entry(book: &mut [u64], added: Entry) -> Reply
     ensures { λ r. ⌜ r ≡ replyOf 0 (entries (now (book .entry)) + 1) ⌝ }
     ensures { λ _. ⌜ now (book .exit) ≡ addEntry (now (book .entry)) added ⌝ }
 {
-    let count = book[book_words::ENTRIES];
-    let at = book_words::FIRST_ENTRY + book_words::ENTRY_WORDS * (count as usize);
-    book[at] = added.category;
-    book[at + 1] = added.group;
-    book[at + 2] = added.operation;
-    book[at + 3] = added.provision;
-    book[at + 4] = added.struck;
-    book[book_words::ENTRIES] = count + 1;
-    Reply {
-        refusal: 0,
-        number: count + 1,
-    }
+    append(
+        book,
+        ENTRY_LIST,
+        &[
+            added.category,
+            added.group,
+            added.operation,
+            added.provision,
+            added.struck,
+        ],
+    )
 }
 
 // Appends an element and answers its number.
@@ -61,21 +78,20 @@ pub fn add_element(book: &mut [u64], added: Element) -> Reply
     ensures { λ r. ⌜ r ≡ replyOf 0 (elements (now (book .entry)) + 1) ⌝ }
     ensures { λ _. ⌜ now (book .exit) ≡ addElement (now (book .entry)) added ⌝ }
 {
-    let count = book[book_words::ELEMENTS];
-    let at = book_words::FIRST_ELEMENT + book_words::ELEMENT_WORDS * (count as usize);
-    book[at] = added.category;
-    book[at + 1] = added.chain;
-    book[at + 2] = added.code;
-    book[at + 3] = added.amount;
-    book[at + 4] = added.distance;
-    book[at + 5] = added.activity;
-    book[at + 6] = added.operation;
-    book[at + 7] = added.provision;
-    book[book_words::ELEMENTS] = count + 1;
-    Reply {
-        refusal: 0,
-        number: count + 1,
-    }
+    append(
+        book,
+        ELEMENT_LIST,
+        &[
+            added.category,
+            added.chain,
+            added.code,
+            added.amount,
+            added.distance,
+            added.activity,
+            added.operation,
+            added.provision,
+        ],
+    )
 }
 
 // Appends an entry, unless the sums with it would pass their limits.

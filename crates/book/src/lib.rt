@@ -1,5 +1,6 @@
 // The calls of a book of transport emissions (document 01, "Calls").
 mod appending;
+mod arguments;
 mod clearing;
 mod closing;
 mod enrolling;
@@ -11,6 +12,9 @@ mod replies;
 mod statements;
 mod striking;
 
+pub use arguments::EnrolArguments;
+pub use arguments::PostArguments;
+pub use arguments::QuoteArguments;
 pub use book_shares::Intensity;
 pub use book_shares::close_sound;
 pub use book_shares::intensity_sound;

@@ -6,6 +6,7 @@ ghost use Rattle.book.specs.Calls.{openReply, openBook, openRefusal};
 use crate::appending;
 use crate::replies;
 use crate::replies::Reply;
+use apportion::first_of;
 use book_words::Category;
 
 // Opens a category of this kind, and answers its number.
@@ -37,11 +38,8 @@ fn refusal_number(book: &[u64], kind: u64) -> u64
     requires { ⌜ sound (now book) ≡ true ⌝ }
     ensures { λ r. ⌜ r ≡ openRefusal (now (book .entry)) kind ⌝ }
 {
-    if !book_words::is_kind(kind) {
-        return 3;
-    }
-    if book_words::MOST_CATEGORIES <= book[book_words::CATEGORIES] {
-        return 8;
-    }
-    0
+    let categories = book[book_words::CATEGORIES];
+    let unknown = !book_words::is_kind(kind);
+    let full = book_words::MOST_CATEGORIES <= categories;
+    first_of(&[3, 8], &[unknown, full])
 }

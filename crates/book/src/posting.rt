@@ -1,15 +1,17 @@
 // Post: appends an entry.
 ghost use mathlib.Core.Bool.{true};
 ghost use mathlib.Core.Path.{_≡_};
-ghost use lib.ListN.{take};
-ghost use Rattle.apportion.specs.Grounds.{firstOf};
+ghost use Rattle.apportion.specs.Grounds.{firstOf, groundsBefore};
 ghost use Rattle.book_words.specs.Soundness.{sound};
 ghost use Rattle.book_words.specs.Totals.{sumsOf};
-ghost use Rattle.book.specs.Calls.{postReply, postBook, postGrounds};
+ghost use Rattle.book.specs.Appending.{capAmounts};
+ghost use Rattle.book.specs.Calls.{postReply, postBook, postGrounds, postedEntry};
 use crate::appending;
+use crate::arguments::PostArguments;
 use crate::replies;
 use crate::replies::Counted;
 use crate::replies::Reply;
+use apportion::first_of;
 use book_words::Entry;
 use book_words::Sums;
 
@@ -20,105 +22,64 @@ const MOST_QUANTITY: u64 = 1_000_000_000_000;
 const MOST_FACTOR: u64 = 10_000_000_000;
 
 // Posts quantity × factor to a category and group, and answers the entry's number.
-pub fn post(
-    book: &mut [u64],
-    category: u64,
-    group: u64,
-    quantity: u64,
-    operation_factor: u64,
-    provision_factor: u64,
-) -> Reply
-    ensures { λ r. ⌜ r ≡ postReply (now (book .entry)) category group quantity «operation_factor» «provision_factor» ⌝ }
-    ensures { λ _. ⌜ now (book .exit) ≡ postBook (now (book .entry)) category group quantity «operation_factor» «provision_factor» ⌝ }
+pub fn post(book: &mut [u64], p: PostArguments) -> Reply
+    ensures { λ r. ⌜ r ≡ postReply (now (book .entry)) p ⌝ }
+    ensures { λ _. ⌜ now (book .exit) ≡ postBook (now (book .entry)) p ⌝ }
 {
     if !book_words::is_sound(book) {
         return replies::refused(1);
     }
     let sums = book_words::sums_of(book);
-    let counted = post_sound(
-        book,
-        sums,
-        category,
-        group,
-        quantity,
-        operation_factor,
-        provision_factor,
-    );
+    let counted = post_sound(book, sums, p);
     counted.reply
 }
 
 // The same on a book that is known to be sound and whose sums are known.
-pub fn post_sound(
-    book: &mut [u64],
-    sums: Sums,
-    category: u64,
-    group: u64,
-    quantity: u64,
-    operation_factor: u64,
-    provision_factor: u64,
-) -> Counted
+pub fn post_sound(book: &mut [u64], sums: Sums, p: PostArguments) -> Counted
     requires { ⌜ sound (now book) ≡ true ⌝ }
     requires { ⌜ sums ≡ sumsOf (now book) ⌝ }
-    ensures { λ r. ⌜ r .reply ≡ postReply (now (book .entry)) category group quantity «operation_factor» «provision_factor» ⌝ }
-    ensures { λ _. ⌜ now (book .exit) ≡ postBook (now (book .entry)) category group quantity «operation_factor» «provision_factor» ⌝ }
+    ensures { λ r. ⌜ r .reply ≡ postReply (now (book .entry)) p ⌝ }
+    ensures { λ _. ⌜ now (book .exit) ≡ postBook (now (book .entry)) p ⌝ }
     ensures { λ r. ⌜ r .sums ≡ sumsOf (now (book .exit)) ⌝ }
 {
-    let refusal = refusal_number(
-        book,
-        category,
-        group,
-        quantity,
-        operation_factor,
-        provision_factor,
-    );
+    let refusal = refusal_number(book, p);
     if refusal != 0 {
         return replies::turned_away(refusal, sums);
     }
-    appending::admit_entry(
-        book,
-        sums,
-        Entry {
-            category,
-            group,
-            operation: book_words::multiply(quantity, operation_factor),
-            provision: book_words::multiply(quantity, provision_factor),
-            struck: 0,
-        },
-    )
+    appending::admit_entry(book, sums, posted(p))
 }
 
 // The number of the first ground before 10 that holds, or 0.
-fn refusal_number(
-    book: &[u64],
-    category: u64,
-    group: u64,
-    quantity: u64,
-    operation_factor: u64,
-    provision_factor: u64,
-) -> u64
+fn refusal_number(book: &[u64], p: PostArguments) -> u64
     requires { ⌜ sound (now book) ≡ true ⌝ }
-    ensures { λ r. ⌜ r ≡ firstOf (take 7 (postGrounds (now (book .entry)) category group quantity «operation_factor» «provision_factor»)) ⌝ }
+    ensures { λ r. ⌜ r ≡ firstOf (groundsBefore 10 (postGrounds (now (book .entry)) p)) ⌝ }
 {
-    if !((1 <= category) & (category <= book[book_words::CATEGORIES])) {
-        return 2;
+    let categories = book[book_words::CATEGORIES];
+    let entries = book[book_words::ENTRIES];
+    let category = book_words::category_of(book, p.category);
+    let unnumbered = !((1 <= p.category) & (p.category <= categories));
+    let unknown = !(p.group <= 2);
+    let closed = category.closed != 0;
+    let unsuited = book_words::unsuited_group(category.kind, p.group);
+    let out_of_range = !((p.quantity <= MOST_QUANTITY)
+        & (p.operation_factor <= MOST_FACTOR)
+        & (p.provision_factor <= MOST_FACTOR));
+    let full = book_words::MOST_ENTRIES <= entries;
+    first_of(
+        &[2, 3, 4, 6, 7, 8],
+        &[unnumbered, unknown, closed, unsuited, out_of_range, full],
+    )
+}
+
+// The entry that a post appends, its amounts capped.
+fn posted(p: PostArguments) -> Entry
+    ensures { λ r. ⌜ r ≡ capAmounts (postedEntry p) ⌝ }
+{
+    Entry {
+        category: p.category,
+        group: p.group,
+        operation: book_words::multiply(p.quantity, p.operation_factor),
+        provision: book_words::multiply(p.quantity, p.provision_factor),
+        struck: 0,
     }
-    if group > 2 {
-        return 3;
-    }
-    let r = book_words::category_of(book, category);
-    if r.closed != 0 {
-        return 4;
-    }
-    if book_words::unsuited_group(r.kind, group) {
-        return 6;
-    }
-    if !((quantity <= MOST_QUANTITY)
-        & (operation_factor <= MOST_FACTOR)
-        & (provision_factor <= MOST_FACTOR)) {
-        return 7;
-    }
-    if book_words::MOST_ENTRIES <= book[book_words::ENTRIES] {
-        return 8;
-    }
-    0
 }

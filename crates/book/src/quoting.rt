@@ -1,17 +1,20 @@
 // Quote: appends an element of category 0 with its own shares.
 ghost use mathlib.Core.Bool.{true};
 ghost use mathlib.Core.Path.{_≡_};
-ghost use Prim.Native.Nat.{_≤_};
-ghost use lib.ListN.{take};
-ghost use Rattle.apportion.specs.Grounds.{firstOf};
+ghost use Prim.Native.Nat.{_≤_, _*_};
+ghost use Rattle.apportion.specs.Grounds.{firstOf, groundsBefore};
+ghost use Rattle.book_words.specs.Measures.{nearest};
 ghost use Rattle.book_words.specs.Soundness.{sound};
 ghost use Rattle.book_words.specs.Totals.{capped, sumsOf};
-ghost use Rattle.book.specs.Calls.{quoteReply, quoteBook, quoteGrounds, quotedElement, quotedAmount, adjusted as adjustedBy};
-ghost use Rattle.book.specs.Quotes.{Quotable, capShares};
+ghost use Rattle.book.specs.Appending.{capShares};
+ghost use Rattle.book.specs.Calls.{quoteReply, quoteBook, quoteGrounds, quotedElement, adjusted as adjustedBy};
+ghost use Rattle.book.specs.Quotes.{Quotable};
 use crate::appending;
+use crate::arguments::QuoteArguments;
 use crate::replies;
 use crate::replies::Counted;
 use crate::replies::Reply;
+use apportion::first_of;
 use book_words::Element;
 use book_words::Sums;
 
@@ -22,147 +25,87 @@ const MOST_INTENSITY: u64 = 1_000_000_000;
 const AIR_DISTANCE: u64 = 95_000;
 
 // Quotes a chain's element by two intensities, and answers its number.
-pub fn quote(
-    book: &mut [u64],
-    chain: u64,
-    adjust: u64,
-    mass: u64,
-    distance: u64,
-    operation_intensity: u64,
-    provision_intensity: u64,
-) -> Reply
-    ensures { λ r. ⌜ r ≡ quoteReply (now (book .entry)) chain adjust mass distance «operation_intensity» «provision_intensity» ⌝ }
-    ensures { λ _. ⌜ now (book .exit) ≡ quoteBook (now (book .entry)) chain adjust mass distance «operation_intensity» «provision_intensity» ⌝ }
+pub fn quote(book: &mut [u64], q: QuoteArguments) -> Reply
+    ensures { λ r. ⌜ r ≡ quoteReply (now (book .entry)) q ⌝ }
+    ensures { λ _. ⌜ now (book .exit) ≡ quoteBook (now (book .entry)) q ⌝ }
 {
     if !book_words::is_sound(book) {
         return replies::refused(1);
     }
     let sums = book_words::sums_of(book);
-    let counted = quote_sound(
-        book,
-        sums,
-        chain,
-        adjust,
-        mass,
-        distance,
-        operation_intensity,
-        provision_intensity,
-    );
+    let counted = quote_sound(book, sums, q);
     counted.reply
 }
 
 // The same on a book that is known to be sound and whose sums are known.
-pub fn quote_sound(
-    book: &mut [u64],
-    sums: Sums,
-    chain: u64,
-    adjust: u64,
-    mass: u64,
-    distance: u64,
-    operation_intensity: u64,
-    provision_intensity: u64,
-) -> Counted
+pub fn quote_sound(book: &mut [u64], sums: Sums, q: QuoteArguments) -> Counted
     requires { ⌜ sound (now book) ≡ true ⌝ }
     requires { ⌜ sums ≡ sumsOf (now book) ⌝ }
-    ensures { λ r. ⌜ r .reply ≡ quoteReply (now (book .entry)) chain adjust mass distance «operation_intensity» «provision_intensity» ⌝ }
-    ensures { λ _. ⌜ now (book .exit) ≡ quoteBook (now (book .entry)) chain adjust mass distance «operation_intensity» «provision_intensity» ⌝ }
+    ensures { λ r. ⌜ r .reply ≡ quoteReply (now (book .entry)) q ⌝ }
+    ensures { λ _. ⌜ now (book .exit) ≡ quoteBook (now (book .entry)) q ⌝ }
     ensures { λ r. ⌜ r .sums ≡ sumsOf (now (book .exit)) ⌝ }
 {
-    let refusal = refusal_number(
-        book,
-        chain,
-        adjust,
-        mass,
-        distance,
-        operation_intensity,
-        provision_intensity,
-    );
+    let refusal = refusal_number(book, q);
     if refusal != 0 {
         return replies::turned_away(refusal, sums);
     }
-    let e = quoted(
-        chain,
-        adjust,
-        mass,
-        distance,
-        operation_intensity,
-        provision_intensity,
-    );
-    appending::admit_element(book, sums, e)
+    appending::admit_element(book, sums, quoted(q))
 }
 
 // The number of the first ground before 10 that holds, or 0.
-fn refusal_number(
-    book: &[u64],
-    chain: u64,
-    adjust: u64,
-    mass: u64,
-    distance: u64,
-    operation_intensity: u64,
-    provision_intensity: u64,
-) -> u64
+fn refusal_number(book: &[u64], q: QuoteArguments) -> u64
     requires { ⌜ sound (now book) ≡ true ⌝ }
-    ensures { λ r. ⌜ r ≡ firstOf (take 4 (quoteGrounds (now (book .entry)) chain adjust mass distance «operation_intensity» «provision_intensity»)) ⌝ }
+    ensures { λ r. ⌜ r ≡ firstOf (groundsBefore 10 (quoteGrounds (now (book .entry)) q)) ⌝ }
 {
-    if !(book_words::is_chain(chain) & (adjust <= 1)) {
-        return 3;
-    }
-    if !(book_words::is_amount(0, mass)
-        & book_words::is_distance(1, distance)
-        & (operation_intensity <= MOST_INTENSITY)
-        & (provision_intensity <= MOST_INTENSITY)) {
-        return 7;
-    }
-    if book_words::MOST_ELEMENTS <= book[book_words::ELEMENTS] {
-        return 8;
-    }
-    0
+    let elements = book[book_words::ELEMENTS];
+    let unknown = !(book_words::is_chain(q.chain) & (q.adjust <= 1));
+    let out_of_range = !(book_words::is_amount(0, q.mass)
+        & book_words::is_distance(1, q.distance)
+        & (q.operation_intensity <= MOST_INTENSITY)
+        & (q.provision_intensity <= MOST_INTENSITY));
+    let full = book_words::MOST_ELEMENTS <= elements;
+    first_of(&[3, 7, 8], &[unknown, out_of_range, full])
 }
 
 // The element that a quote appends, its shares capped.
-fn quoted(
-    chain: u64,
-    adjust: u64,
-    mass: u64,
-    distance: u64,
-    operation_intensity: u64,
-    provision_intensity: u64,
-) -> Element
-    requires { ⌜ Quotable mass distance «operation_intensity» ⌝ }
-    requires { ⌜ Quotable mass distance «provision_intensity» ⌝ }
-    ensures { λ r. ⌜ r ≡ capShares (quotedElement chain adjust mass distance «operation_intensity» «provision_intensity») ⌝ }
+fn quoted(q: QuoteArguments) -> Element
+    requires { ⌜ Quotable q ⌝ }
+    ensures { λ r. ⌜ r ≡ capShares (quotedElement q) ⌝ }
 {
+    let mass = q.mass;
+    let distance = q.distance;
+    let far = adjusted(q);
+    let product = mass * far;
     Element {
         category: 0,
-        chain,
+        chain: q.chain,
         code: 0,
         amount: mass,
         distance,
         activity: mass * distance,
-        operation: quoted_amount(adjust, mass, distance, operation_intensity),
-        provision: quoted_amount(adjust, mass, distance, provision_intensity),
+        operation: nearest_thousandth(q.operation_intensity, product),
+        provision: nearest_thousandth(q.provision_intensity, product),
     }
 }
 
-// Intensity × mass × D / 1000, nearest, halves up, capped. The product passes 64 bits, so the
-// thousands of mass × D are multiplied apart from what is left of it.
-fn quoted_amount(adjust: u64, mass: u64, distance: u64, intensity: u64) -> u64
-    requires { ⌜ Quotable mass distance intensity ⌝ }
-    ensures { λ r. ⌜ r ≡ capped (quotedAmount adjust mass distance intensity) ⌝ }
+// Intensity × product / 1000, nearest, halves up, capped; the product is mass × D. With the intensity it passes 64
+// bits, so its thousands are multiplied apart from what is left of it.
+fn nearest_thousandth(intensity: u64, product: u64) -> u64
+    requires { ⌜ intensity ≤ 1_000_000_000 ⌝ }
+    ensures { λ r. ⌜ r ≡ capped (nearest (intensity * product) 1000) ⌝ }
 {
-    let activity = mass * adjusted(adjust, distance);
-    let whole = book_words::multiply(intensity, activity / 1000);
-    let rest = (intensity * (activity % 1000) + 500) / 1000;
+    let whole = book_words::multiply(intensity, product / 1000);
+    let rest = (intensity * (product % 1000) + 500) / 1000;
     book_words::add(whole, rest)
 }
 
 // D: the distance, with adjust 1 plus the air default.
-fn adjusted(adjust: u64, distance: u64) -> u64
-    requires { ⌜ distance ≤ 40_000_000 ⌝ }
-    ensures { λ r. ⌜ r ≡ adjustedBy adjust distance ⌝ }
+fn adjusted(q: QuoteArguments) -> u64
+    requires { ⌜ q .distance ≤ 40_000_000 ⌝ }
+    ensures { λ r. ⌜ r ≡ adjustedBy q ⌝ }
 {
-    if adjust == 1 {
-        return distance + AIR_DISTANCE;
+    if q.adjust == 1 {
+        return q.distance + AIR_DISTANCE;
     }
-    distance
+    q.distance
 }

@@ -13,6 +13,8 @@ use Rattle.apportion.proofs.Grounds.{accepted-new, refused-old, either}
 use Rattle.book_words.specs.Soundness.{sound}
 use Rattle.book_words.specs.Totals.{sumsOf}
 use Rattle.book_words.specs.declared.totals.Sums.{Sums}
+use Rattle.book.specs.declared.replies.Counted.{Counted}
+use Rattle.book.specs.declared.replies.Reply.{Reply}
 use Rattle.book.proofs.Laws.{open-sums, close-sums}
 use Rattle.conservation.specs.Runs.{step}
 use Rattle.conservation.proofs.Laws.{step-refused, sound-step}
@@ -21,8 +23,10 @@ use Rattle.book_file.specs.declared.answers.Load.the-variants.{Loaded, S
 use Rattle.book_file.specs.declared.answers.Place.{Place}
 use Rattle.book_file.specs.declared.answers.Place.the-variants.{Header, Category, Entry, Element, Closing}
 use Rattle.book_file.specs.declared.records.CategoryRecord.{CategoryRecord}
+use Rattle.book_file.specs.declared.tables.Reached.{Reached}
 use Rattle.book_file.specs.Answers.{numbersOf, answerAt}
-use Rattle.book_file.specs.Loading.{Task, opening, closing, isFlagged, Loading, loadingOf, taskRefusal, made, madeClosing, unlessStopped, nextTask, carriedOn}
+use Rattle.book_file.specs.Loading.{Task, opening, closing, isFlagged, taskRefusal, made, madeClosing}
+use Rattle.book_file.specs.Loading.{Loading, loadingOf, unlessStopped, nextTask, carriedOn}
 
 -- the refusal number of a stop
 pub stop-refusal : (n : ℕ) (place : Place) → numbersOf (Stopped n place) .refusal ≡ n
@@ -62,28 +66,40 @@ pub call-made : {answer : Load} {ws′ : List ℕ} {n : ℕ} (ws : List ℕ) (ta
     → loadingOf answer ws′ ≡ made ws task
 call-made ws task whole gave is = rw (is, gave .0, gave .1) (sym (made-call ws task whole))
 
--- an opening and a closing leave the sums of the book as they are
-made-sums : (ws : List ℕ) (task : Task) → sumsOf (step ws (task .call) .book) ≡ sumsOf ws → sumsOf (made ws task .book) ≡ sumsOf ws
-unfolding made
-made-sums ws task kept =
-    either (λ b. sumsOf b ≡ sumsOf ws) (taskRefusal ws task) (made ws task .book) ws
-    (refused-old (taskRefusal ws task) (step ws (task .call) .book) ws)
-    (λ e. rw (accepted-new (taskRefusal ws task) (step ws (task .call) .book) ws e) kept)
-    refl
+-- and of a call that gave sums too
+pub counted-made : {reached : Reached} {counted : Counted} {ws′ : List ℕ} (ws : List ℕ) (task : Task) → task .broken ≡ false
+    → (counted .reply ≡ step ws (task .call) .reply) × ((ws′ ≡ step ws (task .call) .book) × (counted .sums ≡ sumsOf ws′))
+    → reached ≡ record { answer = answerAt (counted .reply .refusal) (task .place); sums = counted .sums }
+    → (loadingOf (reached .answer) ws′ ≡ made ws task) × (reached .sums ≡ sumsOf ws′)
+counted-made ws task whole gave is = (
+  call-made ws task whole (ap (λ (r : Reply). r .refusal) (gave .0), gave .1 .0) (ap (λ (r : Reached). r .answer) is),
+  ap (λ (r : Reached). r .sums) is ∙ gave .1 .1,
+)
 
+-- what holds of a book and of the book after a task's call holds of the book that the task leaves
+made-keeps : (P : List ℕ → Type 0) (ws : List ℕ) (task : Task) → P (step ws (task .call) .book) → P ws → P (made ws task .book)
+unfolding made
+made-keeps P ws task new old =
+    either P (taskRefusal ws task) (made ws task .book) ws
+    (refused-old (taskRefusal ws task) (step ws (task .call) .book) ws)
+    (λ e. rw (accepted-new (taskRefusal ws task) (step ws (task .call) .book) ws e) new)
+    old
+
+-- an opening and a closing leave the sums of the book as they are
 pub opening-sums : (ws : List ℕ) (number : ℕ) (r : CategoryRecord) → sumsOf (made ws (opening number r) .book) ≡ sumsOf ws
-opening-sums ws number r = made-sums ws (opening number r) (open-sums ws (r .kind))
+opening-sums ws number r = made-keeps (λ b. sumsOf b ≡ sumsOf ws) ws (opening number r) (open-sums ws (r .kind)) refl
 
 pub closing-sums : (ws : List ℕ) (number : ℕ) (r : CategoryRecord) → sumsOf (madeClosing ws number r .book) ≡ sumsOf ws
 closing-sums ws number r = go (isFlagged r)
   where
     go : (t : Bool) → sumsOf (cond t (made ws (closing number)) (loadingOf Loaded ws) .book) ≡ sumsOf ws
-    go true = made-sums ws (closing number) (close-sums ws number)
+    go true = made-keeps (λ b. sumsOf b ≡ sumsOf ws) ws (closing number) (close-sums ws number) refl
     go false = refl
 
 -- sums that were known are those of the book that a load has come to
-pub known-still : {sums : Sums} {answer : Load} (ws ws′ : List ℕ) (loading : Loading) → sums ≡ sumsOf ws → loadingOf answer ws′ ≡ loading → sumsOf (loading .book) ≡ sumsOf ws → sums ≡ sumsOf ws′
-known-still ws ws′ loading known is kept = known ∙ sym (ap (λ (l : Loading). sumsOf (l .book)) is ∙ kept)
+pub known-still : {sums known : Sums} {answer : Load} {ws′ : List ℕ} {loading : Loading} → sums ≡ known → loadingOf answer ws′ ≡ loading
+    → sumsOf (loading .book) ≡ known → (loadingOf answer ws′ ≡ loading) × (sums ≡ sumsOf ws′)
+known-still same is kept = (is, same ∙ sym (ap (λ (l : Loading). sumsOf (l .book)) is ∙ kept))
 
 -- a list of tasks that are carried out one after the other
 pub carried-append : (loading : Loading) (first rest : List Task)
@@ -98,20 +114,12 @@ carried-stopped n place ws [] = refl
 carried-stopped n place ws (task ∷ tasks) = carried-stopped n place ws tasks
 
 -- every book on the way is sound
-sound-made : (ws : List ℕ) (task : Task) → sound ws ≡ true → sound (made ws task .book) ≡ true
-unfolding made
-sound-made ws task fine =
-    either (λ b. sound b ≡ true) (taskRefusal ws task) (made ws task .book) ws
-    (refused-old (taskRefusal ws task) (step ws (task .call) .book) ws)
-    (λ e. rw (accepted-new (taskRefusal ws task) (step ws (task .call) .book) ws e) (sound-step ws (task .call) fine))
-    fine
-
 pub carried-sound : (loading : Loading) (tasks : List Task) → sound (loading .book) ≡ true → sound (carriedOn loading tasks .book) ≡ true
 carried-sound loading [] fine = fine
 carried-sound loading (task ∷ tasks) fine = carried-sound (nextTask loading task) tasks (of-answer (loading .answer))
   where
     of-answer : (answer : Load) → sound (unlessStopped answer (made (loading .book) task) loading .book) ≡ true
-    of-answer Loaded = sound-made (loading .book) task fine
+    of-answer Loaded = made-keeps (λ b. sound b ≡ true) (loading .book) task (sound-step (loading .book) (task .call) fine) fine
     of-answer (Stopped n place) = fine
 
 -- the tasks of the places of a table that are asked for

@@ -1,19 +1,20 @@
 -- What a header that stops nothing says of the file. Assumes nothing.
 use mathlib.Core.Bool.{false, _||_}
 use mathlib.Core.List.{List}
-use mathlib.Core.Path.{_≡_}
+use mathlib.Core.Path.{_≡_, refl}
 use Prim.Native.Nat.{ℕ, _+_, _<_, _≤_}
 use native.Mathlib.Nat.{mul-le-mul-right}
 use native.Mathlib.Omega.{arith}
 use lib.Dec.{ltb}
 use lib.ListN.{length}
 use borrow.Author.Tests.{ltb-false}
-use Rattle.apportion.proofs.Grounds.{first-none, or-none}
+use Rattle.apportion.proofs.Grounds.{conditionOf, none-holds, or-none}
 use Rattle.book_words.specs.Book.{bookLength}
 use Rattle.book_file.specs.declared.header.Section.{Section}
 use Rattle.book_file.specs.declared.tables.Table.{Table}
 use Rattle.book_file.specs.declared.tables.Table.the-variants.{Categories, Entries, Elements, Closings}
-use Rattle.book_file.specs.File.{headerLength, categoriesIn, entriesIn, elementsIn, recordAt, sectionEnd, wrongHeader, misplaced, wrongSections, headerRefusal}
+use Rattle.book_file.specs.File.{headerLength, categoriesIn, entriesIn, elementsIn, recordAt, sectionEnd}
+use Rattle.book_file.specs.File.{misplaced, wrongSections, headerGrounds, headerRefusal}
 use Rattle.book_file.specs.Loading.{sectionOf}
 
 -- a section that starts and ends where it may
@@ -31,17 +32,13 @@ not-misplaced earliest section fileLength e =
     }
 
 module _ (words : ℕ) (file : List ℕ) (fine : headerRefusal words file ≡ 0) where
-  grounds : (ltb words bookLength ≡ false) × ((wrongHeader file ≡ false) × (wrongSections file ≡ false))
+  none : (number : ℕ) → conditionOf number (headerGrounds words file) ≡ false
   unfolding headerRefusal
-  grounds =
-      let one = first-none 0 (ltb words bookLength) _ fine in
-      let eleven = first-none 10 (wrongHeader file) _ (one .1) in
-      let twelve = first-none 11 (wrongSections file) _ (eleven .1) in
-      (one .0, (eleven .0, twelve .0))
+  none = none-holds (headerGrounds words file) refl fine
 
   -- the slice has room for a book
   pub header-long : bookLength ≤ words
-  header-long = ltb-false words bookLength (grounds .0)
+  header-long = ltb-false words bookLength (none 1)
 
   -- the sections follow one another inside the file
   placed : Placed headerLength (categoriesIn file) (length file)
@@ -52,7 +49,7 @@ module _ (words : ℕ) (file : List ℕ) (fine : headerRefusal words file ≡ 0)
       let first = misplaced headerLength (categoriesIn file) (length file) in
       let second = misplaced (sectionEnd (categoriesIn file)) (entriesIn file) (length file) in
       let third = misplaced (sectionEnd (entriesIn file)) (elementsIn file) (length file) in
-      let last = or-none (first || second) third (grounds .1 .1) in
+      let last = or-none (first || second) third (none 12) in
       let both = or-none first second (last .0) in (
         not-misplaced headerLength (categoriesIn file) (length file) (both .0),
         (

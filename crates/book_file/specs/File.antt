@@ -6,10 +6,10 @@ use Prim.Native.Nat.{ℕ, _+_, _*_, _<_, _≤_, _^_}
 use lib.Dec.{ltb, eqb}
 use lib.ListN.{length}
 use Rattle.apportion.specs.Grounds.{Ground, firstOf}
+use Rattle.book.specs.declared.arguments.PostArguments.{PostArguments}
 use Rattle.book_words.specs.Book.{bookLength, mark}
 use Rattle.book_file.specs.declared.header.Section.{Section}
 use Rattle.book_file.specs.declared.records.CategoryRecord.{CategoryRecord}
-use Rattle.book_file.specs.declared.records.EntryRecord.{EntryRecord}
 use Rattle.book_file.specs.declared.records.ElementRecord.{ElementRecord}
 use Rattle.book_file.specs.Bytes.{u32At, u64At}
 
@@ -85,14 +85,14 @@ abbrev pub categoryRecord : List ℕ → ℕ → CategoryRecord
 categoryRecord file position = record { kind = u32At file position; flag = u32At file (position + 4) }
 
 -- "Entry: u32 category, group; u64 quantity, operation factor, provision factor."
-abbrev pub entryRecord : List ℕ → ℕ → EntryRecord
+abbrev pub entryRecord : List ℕ → ℕ → PostArguments
 entryRecord file position =
     record {
       category = u32At file position;
       group = u32At file (position + 4);
       quantity = u64At file (position + 8);
-      operation = u64At file (position + 16);
-      provision = u64At file (position + 24);
+      «operation_factor» = u64At file (position + 16);
+      «provision_factor» = u64At file (position + 24);
     }
 
 -- "Element: u32 category, chain, code, adjust; u64 amount, distance, two intensities."

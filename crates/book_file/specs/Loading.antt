@@ -7,6 +7,7 @@ use lib.ListN.{length}
 use Rattle.apportion.specs.Grounds.{accepted}
 use Rattle.apportion.specs.Places.{keptBelow}
 use Rattle.book.specs.Calls.{freshBook}
+use Rattle.book.specs.declared.arguments.PostArguments.{PostArguments}
 use Rattle.conservation.specs.declared.Call.{Call}
 use Rattle.conservation.specs.declared.Call.the-variants.{Open, Post, Enrol, Quote, Close}
 use Rattle.conservation.specs.Runs.{step}
@@ -17,7 +18,6 @@ use Rattle.book_file.specs.declared.answers.Place.{Place}
 use Rattle.book_file.specs.declared.answers.Place.the-variants.{Header, Category, Entry, Element, Closing}
 use Rattle.book_file.specs.declared.header.Section.{Section}
 use Rattle.book_file.specs.declared.records.CategoryRecord.{CategoryRecord}
-use Rattle.book_file.specs.declared.records.EntryRecord.{EntryRecord}
 use Rattle.book_file.specs.declared.records.ElementRecord.{ElementRecord}
 use Rattle.book_file.specs.declared.tables.Table.{Table}
 use Rattle.book_file.specs.declared.tables.Table.the-variants.{Categories, Entries, Elements, Closings}
@@ -34,13 +34,8 @@ pub record Task : Type 0 where
 abbrev pub opening : ℕ → CategoryRecord → Task
 opening number r = record { place = Category number; broken = ltb 1 (r .flag); call = Open (r .kind) }
 
-abbrev pub posting : ℕ → EntryRecord → Task
-posting number r =
-    record {
-      place = Entry number;
-      broken = false;
-      call = Post (r .category) (r .group) (r .quantity) (r .operation) (r .provision);
-    }
+abbrev pub posting : ℕ → PostArguments → Task
+posting number p = record { place = Entry number; broken = false; call = Post p }
 
 -- "Code must be 0 with category 0"
 abbrev pub quoting : ℕ → ElementRecord → Task
@@ -48,7 +43,15 @@ quoting number r =
     record {
       place = Element number;
       broken = not (eqb (r .code) 0);
-      call = Quote (r .chain) (r .adjust) (r .amount) (r .distance) (r .operation) (r .provision);
+      call = Quote
+          (record {
+            chain = r .chain;
+            adjust = r .adjust;
+            mass = r .amount;
+            distance = r .distance;
+            «operation_intensity» = r .operation;
+            «provision_intensity» = r .provision;
+          });
     }
 
 -- "adjust and intensities must be 0 otherwise"
@@ -57,7 +60,14 @@ enrolling number r =
     record {
       place = Element number;
       broken = not (eqb (r .adjust) 0) || not (eqb (r .operation) 0) || not (eqb (r .provision) 0);
-      call = Enrol (r .category) (r .chain) (r .code) (r .amount) (r .distance);
+      call = Enrol
+          (record {
+            category = r .category;
+            chain = r .chain;
+            code = r .code;
+            amount = r .amount;
+            distance = r .distance;
+          });
     }
 
 -- "enrols or quotes": category 0 is that of a quote

@@ -3,6 +3,7 @@ ghost use mathlib.Core.Path.{_≡_};
 ghost use Prim.Native.Nat.{_≤_, _<_, _^_};
 ghost use Rattle.book_file.specs.File.{headerNumber, sectionIn, categoriesIn, entriesIn, elementsIn, recordAt, sectionEnd, Within32, wrongHeader, misplaced, wrongSections, headerRefusal};
 use crate::numbers;
+use apportion::first_of;
 
 // The bytes of the header, and the most bytes of a file.
 const LENGTH: usize = 32;
@@ -20,16 +21,10 @@ pub struct Section {
 pub fn refusal_number(words: usize, file: &[u8]) -> u64
     ensures { λ r. ⌜ r ≡ headerRefusal words (now (file .entry)) ⌝ }
 {
-    if words < book_words::BOOK_LENGTH {
-        return 1;
-    }
-    if is_wrong(file) {
-        return 11;
-    }
-    if are_misplaced(file) {
-        return 12;
-    }
-    0
+    let short = words < book_words::BOOK_LENGTH;
+    let wrong = is_wrong(file);
+    let misplaced = are_misplaced(file);
+    first_of(&[1, 11, 12], &[short, wrong, misplaced])
 }
 
 // Ground 11: the length of the file, and the first and the last number of its header.

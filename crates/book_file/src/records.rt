@@ -4,19 +4,11 @@ ghost use Prim.Native.Nat.{_<_, _^_};
 ghost use Rattle.book_file.specs.File.{categoryRecord, entryRecord, elementRecord};
 use crate::numbers::u32_at;
 use crate::numbers::u64_at;
+use book::PostArguments;
 
 pub struct CategoryRecord {
     pub kind: u64,
     pub flag: u64,
-}
-
-pub struct EntryRecord {
-    pub category: u64,
-    pub group: u64,
-    pub quantity: u64,
-    // Factors.
-    pub operation: u64,
-    pub provision: u64,
 }
 
 pub struct ElementRecord {
@@ -41,16 +33,17 @@ pub fn category(file: &[u8], at: usize) -> CategoryRecord
     }
 }
 
-pub fn entry(file: &[u8], at: usize) -> EntryRecord
+// The record of an entry has the arguments of its post.
+pub fn entry(file: &[u8], at: usize) -> PostArguments
     requires { ⌜ at < 2 ^ 40 ⌝ }
     ensures { λ r. ⌜ r ≡ entryRecord (now (file .entry)) at ⌝ }
 {
-    EntryRecord {
+    PostArguments {
         category: u32_at(file, at),
         group: u32_at(file, at + 4),
         quantity: u64_at(file, at + 8),
-        operation: u64_at(file, at + 16),
-        provision: u64_at(file, at + 24),
+        operation_factor: u64_at(file, at + 16),
+        provision_factor: u64_at(file, at + 24),
     }
 }
 

@@ -15,8 +15,10 @@ use crate::header::Section;
 use crate::records;
 use crate::records::CategoryRecord;
 use crate::records::ElementRecord;
-use crate::records::EntryRecord;
 use book::Counted;
+use book::EnrolArguments;
+use book::PostArguments;
+use book::QuoteArguments;
 use book_words::Sums;
 
 // The records that ask for calls. The categories do so twice: to be opened, and those flagged to be closed.
@@ -111,21 +113,13 @@ fn open(book: &mut [u64], number: u64, category: CategoryRecord) -> Load
 }
 
 // Posts an entry.
-fn post(book: &mut [u64], sums: Sums, number: u64, entry: EntryRecord) -> Reached
+fn post(book: &mut [u64], sums: Sums, number: u64, p: PostArguments) -> Reached
     requires { ⌜ sound (now book) ≡ true ⌝ }
     requires { ⌜ sums ≡ sumsOf (now book) ⌝ }
-    ensures { λ r. ⌜ loadingOf (r .answer) (now (book .exit)) ≡ made (now (book .entry)) (posting number entry) ⌝ }
+    ensures { λ r. ⌜ loadingOf (r .answer) (now (book .exit)) ≡ made (now (book .entry)) (posting number p) ⌝ }
     ensures { λ r. ⌜ r .sums ≡ sumsOf (now (book .exit)) ⌝ }
 {
-    let counted = book::post_sound(
-        book,
-        sums,
-        entry.category,
-        entry.group,
-        entry.quantity,
-        entry.operation,
-        entry.provision,
-    );
+    let counted = book::post_sound(book, sums, p);
     counted_at(counted, Place::Entry(number))
 }
 
@@ -155,16 +149,15 @@ fn quote(book: &mut [u64], sums: Sums, number: u64, element: ElementRecord) -> R
             sums,
         };
     }
-    let counted = book::quote_sound(
-        book,
-        sums,
-        element.chain,
-        element.adjust,
-        element.amount,
-        element.distance,
-        element.operation,
-        element.provision,
-    );
+    let q = QuoteArguments {
+        chain: element.chain,
+        adjust: element.adjust,
+        mass: element.amount,
+        distance: element.distance,
+        operation_intensity: element.operation,
+        provision_intensity: element.provision,
+    };
+    let counted = book::quote_sound(book, sums, q);
     counted_at(counted, place)
 }
 
@@ -181,15 +174,14 @@ fn enrol(book: &mut [u64], sums: Sums, number: u64, element: ElementRecord) -> R
             sums,
         };
     }
-    let counted = book::enrol_sound(
-        book,
-        sums,
-        element.category,
-        element.chain,
-        element.code,
-        element.amount,
-        element.distance,
-    );
+    let e = EnrolArguments {
+        category: element.category,
+        chain: element.chain,
+        code: element.code,
+        amount: element.amount,
+        distance: element.distance,
+    };
+    let counted = book::enrol_sound(book, sums, e);
     counted_at(counted, place)
 }
 

@@ -131,7 +131,9 @@ module _ (ws : List ℕ) (fine : sound ws ≡ true) where
               (λ p h. one (entryAt ws p) (entry-grouped ws (entryAt ws p) (whole .each-entry p h))),
         )
       where
-        one : (e : Entry) → e .group ≤ 2 → pooled category 0 side e + pooled category 1 side e + pooled category 2 side e ≡ cond (eqb (e .category) category) (unstruck side e) 0
+        one : (e : Entry) → e .group ≤ 2
+            → pooled category 0 side e + pooled category 1 side e + pooled category 2 side e
+            ≡ cond (eqb (e .category) category) (unstruck side e) 0
         one e h = go (eqb (e .category) category) (e .group) h
           where
             go : (t : Bool) (g : ℕ) → g ≤ 2

@@ -2,31 +2,33 @@
 use mathlib.Core.Bool.{true, false, not, _||_, _&&_, and-true, Bool, cond}
 use mathlib.Core.List.{List, _∷_, []}
 use mathlib.Core.Logic.{⊎-elim, inl, inr, _⊎_}
-use mathlib.Core.Path.{_≡_, refl, sym, _∙_}
+use mathlib.Core.Path.{_≡_, refl, _∙_}
 use Prim.Native.Nat.{ℕ, _+_, _<_, _≤_}
 use native.Mathlib.Nat.{eq-zero-or-pos}
 use native.Mathlib.Omega.{arith}
 use lib.Dec.{ltb, eqb}
-use lib.ListN.{take, drop}
+use lib.ListN.{take}
 use borrow.Author.Tests.{not-false, eq-eqb, ltb-false}
 use Rattle.apportion.specs.Dividing.{Divisible, largest}
-use Rattle.apportion.specs.Grounds.{firstOf}
+use Rattle.apportion.specs.Grounds.{firstOf, groundsBefore}
 use Rattle.apportion.specs.Places.{at}
-use Rattle.book_words.specs.Book.{categories, isClosed, unnumbered}
+use Rattle.book_words.specs.Book.{categories, isClosed}
 use Rattle.book_words.specs.Measures.{between}
 use Rattle.book_words.specs.Soundness.{sound}
-use Rattle.book_words.specs.Totals.{Side, operation, provision, mostActivity}
+use Rattle.book_words.specs.Totals.{Side, operation, provision}
+use Rattle.book_shares.specs.declared.pools.Pools.{Pools}
+use Rattle.book_shares.specs.declared.sharing.Parts.{Parts}
 use Rattle.book_shares.specs.declared.weights.Takers.{Takers}
 use Rattle.book_shares.specs.declared.weights.Takers.the-variants.{Group, Freight, Passengers}
 use Rattle.book_shares.specs.Closing.{poolWithoutElements, closeGrounds, closeRefusal, nothingToDivideBy}
-use Rattle.book_shares.specs.Dealing.{ToDivideBy, Dealable}
+use Rattle.book_shares.specs.Dealing.{ToDivideBy, Dealable, partsOf, poolsBy}
 use Rattle.book_shares.specs.Listing.{members, activityAt, massAt}
 use Rattle.book_shares.specs.Shares.{weights, freightPart, dividedAll, passengerPart}
 use Rattle.book_shares.specs.Sums.{activityAmong, passengersByMass, pool}
-use Rattle.apportion.proofs.Grounds.{first-none, or-none, passed, first-prefix}
+use Rattle.apportion.proofs.Grounds.{none-holds, decided-from, or-none}
 use Rattle.apportion.proofs.Laws.{share-of-zero}
 use Rattle.book_words.proofs.Ranges.{above-zero}
-use Rattle.book_shares.proofs.Bounds.{mass-least, pool-limited, served-limited}
+use Rattle.book_shares.proofs.Bounds.{mass-least, pool-limited}
 use Rattle.book_shares.proofs.Listed.{activity-members, mass-members, divisible-members}
 use Rattle.book_shares.proofs.Shared.{weights-sum, sum-two, Handed, parts-add}
 
@@ -45,16 +47,13 @@ module _ (ws : List ℕ) (category : ℕ) where
       let nothing = nothingToDivideBy ws category in
       let chilled = poolWithoutElements ws category 1 in
       let frozen = poolWithoutElements ws category 2 in
-      let one = first-none 0 (not (sound ws)) _ e in
-      let two = first-none 1 (unnumbered (categories ws) category) _ (one .1) in
-      let four = first-none 3 (isClosed ws category) _ (two .1) in
-      let nine = first-none 8 (nothing || chilled || frozen) _ (four .1) in
-      let a = or-none (nothing || chilled) frozen (nine .0) in
+      let none = none-holds (closeGrounds ws category) refl e in
+      let a = or-none (nothing || chilled) frozen (none 9) in
       let b = or-none nothing chilled (a .0) in
       record {
-        fine = not-false (sound ws) (one .0);
-        numbered = not-false (between 1 (categories ws) category) (two .0);
-        unclosed = four .0;
+        fine = not-false (sound ws) (none 1);
+        numbered = not-false (between 1 (categories ws) category) (none 2);
+        unclosed = none 4;
         served = above-zero (activityAmong ws category Freight + passengersByMass ws category) (b .0);
         chilled-served = b .1;
         frozen-served = a .1;
@@ -77,7 +76,7 @@ module _ (ws : List ℕ) (category : ℕ) where
     part-divisible served k takers =
         ⊎-elim
         (λ (none : at (activityAmong ws category Freight ∷ passengersByMass ws category ∷ []) k ≡ 0).
-        inr (share-of-zero (pool ws category 0 side) (activityAmong ws category Freight ∷ passengersByMass ws category ∷ []) (all-divisible served (pool ws category 0 side)) k none))
+        inr (share-of-zero (pool ws category 0 side) _ (all-divisible served (pool ws category 0 side)) k none))
         (λ (some : 0 < activityAmong ws category takers). taken-up takers (at (dividedAll ws category side) k) some)
 
     -- there are passengers with an activity where P is above 0
@@ -92,20 +91,21 @@ module _ (ws : List ℕ) (category : ℕ) where
     group-divisible : (group : ℕ) → poolWithoutElements ws category group ≡ false → Divisible (pool ws category group side) (weights ws category (Group group))
     group-divisible group h =
         ⊎-elim
-        (λ (none : activityAmong ws category (Group group) ≡ 0). inr (nothing side (empty (rw (eq-eqb (activityAmong ws category (Group group)) 0 none, and-true) at h))))
+        (λ (none : activityAmong ws category (Group group) ≡ 0).
+        inr (nothing side (rw (eq-eqb (activityAmong ws category (Group group)) 0 none, and-true) at h)))
         (λ (some : 0 < activityAmong ws category (Group group)). taken-up (Group group) (pool ws category group side) some)
         (eq-zero-or-pos (activityAmong ws category (Group group)))
       where
-        empty : ltb 0 (pool ws category group operation) || ltb 0 (pool ws category group provision) ≡ false → (pool ws category group operation ≡ 0) × (pool ws category group provision ≡ 0)
-        empty e =
-            let both-none = or-none (ltb 0 (pool ws category group operation)) (ltb 0 (pool ws category group provision)) e in (
-              omega (arith, ltb-false 0 (pool ws category group operation) (both-none .0)),
-              omega (arith, ltb-false 0 (pool ws category group provision) (both-none .1)),
-            )
-
-        nothing : (s : Side) → (pool ws category group operation ≡ 0) × (pool ws category group provision ≡ 0) → pool ws category group s ≡ 0
-        nothing operation e = e .0
-        nothing provision e = e .1
+        nothing : (s : Side) → ltb 0 (pool ws category group operation) || ltb 0 (pool ws category group provision) ≡ false
+            → pool ws category group s ≡ 0
+        nothing s e =
+            let none = or-none (ltb 0 (pool ws category group operation)) (ltb 0 (pool ws category group provision)) e in
+            go s (none .0) (none .1)
+          where
+            go : (s : Side) → ltb 0 (pool ws category group operation) ≡ false → ltb 0 (pool ws category group provision) ≡ false
+                → pool ws category group s ≡ 0
+            go operation a b = omega (arith, ltb-false 0 (pool ws category group operation) a)
+            go provision a b = omega (arith, ltb-false 0 (pool ws category group provision) b)
 
     pub handed : Closable → Handed ws category side
     handed k =
@@ -117,59 +117,52 @@ module _ (ws : List ℕ) (category : ℕ) where
           frozen-divisible = group-divisible 2 (k .frozen-served);
         }
 
-    -- the four amounts that are dealt out
-    dealable : (takers : Takers) (amount : ℕ) → Divisible amount (weights ws category takers) → amount ≤ largest → Dealable ws (members ws category) takers amount
-    dealable takers amount divisible within = record { divisible = divisible-members ws category takers amount divisible; within = within }
+    -- the four amounts that are dealt out over the category's elements by their places
+    module _ (places : List ℕ) (are : places ≡ members ws category) (k : Closable) where
+      dealable : (takers : Takers) (amount : ℕ) → Divisible amount (weights ws category takers) → amount ≤ largest
+          → Dealable ws places takers amount
+      dealable takers amount divisible within =
+          rw are (record { divisible = divisible-members ws category takers amount divisible; within = within })
 
-    pub freight-dealable : Closable → Dealable ws (members ws category) Freight (freightPart ws category side)
-    freight-dealable k =
-        dealable Freight (freightPart ws category side) (handed k .freight-divisible)
-        (omega (arith, parts-add ws category side (k .served), pool-limited ws (k .fine) category 0 side))
+      pub parts-dealable : (p : Parts) → p ≡ partsOf ws category side
+          → Dealable ws places Freight (p .freight) × Dealable ws places Passengers (p .passengers)
+      parts-dealable p is =
+          let all = parts-add ws category side (k .served) in
+          let most = pool-limited ws (k .fine) category 0 side in
+          rw is (
+            dealable Freight (freightPart ws category side) (handed k .freight-divisible) (omega (arith, all, most)),
+            dealable Passengers (passengerPart ws category side) (handed k .passengers-divisible) (omega (arith, all, most)),
+          )
 
-    pub passengers-dealable : Closable → Dealable ws (members ws category) Passengers (passengerPart ws category side)
-    passengers-dealable k =
-        dealable Passengers (passengerPart ws category side) (handed k .passengers-divisible)
-        (omega (arith, parts-add ws category side (k .served), pool-limited ws (k .fine) category 0 side))
-
-    pub chilled-dealable : Closable → Dealable ws (members ws category) (Group 1) (pool ws category 1 side)
-    chilled-dealable k = dealable (Group 1) (pool ws category 1 side) (handed k .chilled-divisible) (pool-limited ws (k .fine) category 1 side)
-
-    pub frozen-dealable : Closable → Dealable ws (members ws category) (Group 2) (pool ws category 2 side)
-    frozen-dealable k = dealable (Group 2) (pool ws category 2 side) (handed k .frozen-divisible) (pool-limited ws (k .fine) category 2 side)
+      pub pools-dealable : (q : Pools) → q ≡ poolsBy ws category side
+          → Dealable ws places (Group 1) (q .chilled) × Dealable ws places (Group 2) (q .frozen)
+      pools-dealable q is =
+          rw is (
+            dealable (Group 1) (pool ws category 1 side) (handed k .chilled-divisible) (pool-limited ws (k .fine) category 1 side),
+            dealable (Group 2) (pool ws category 2 side) (handed k .frozen-divisible) (pool-limited ws (k .fine) category 2 side),
+          )
 
   -- the condition of ground 9
   abbrev pub withoutElements : Bool
   withoutElements = nothingToDivideBy ws category || poolWithoutElements ws category 1 || poolWithoutElements ws category 2
 
   -- where none of the grounds before 9 holds, 9 decides
-  pub nine-left : firstOf (take 3 (closeGrounds ws category)) ≡ 0 → (sound ws ≡ true) × (closeRefusal ws category ≡ cond withoutElements 9 0)
+  pub nine-left : firstOf (groundsBefore 9 (closeGrounds ws category)) ≡ 0 → (sound ws ≡ true) × (closeRefusal ws category ≡ cond withoutElements 9 0)
   unfolding closeRefusal
-  nine-left e =
-      let one = first-none 0 (not (sound ws)) _ e in
-      let two = first-none 1 (unnumbered (categories ws) category) _ (one .1) in
-      let four = first-none 3 (isClosed ws category) _ (two .1) in
-      (not-false (sound ws) (one .0), passed 1 (one .0) ∙ passed 2 (two .0) ∙ passed 4 (four .0))
+  nine-left e = (
+    not-false (sound ws) (none-holds (groundsBefore 9 (closeGrounds ws category)) refl e 1),
+    decided-from 9 (closeGrounds ws category) refl e,
+  )
 
-  -- where one of them does, it gives the number
-  pub earlier-refused : (n : ℕ) → n ≡ firstOf (take 3 (closeGrounds ws category)) → (n ≡ 0 → ⊥) → n ≡ closeRefusal ws category
-  unfolding closeRefusal
-  earlier-refused n e ne =
-      e ∙ sym (first-prefix (take 3 (closeGrounds ws category)) (drop 3 (closeGrounds ws category)) (λ z. ne (e ∙ z)))
+  module _ (places : List ℕ) (are : places ≡ members ws category) where
+    pub served-at : ToDivideBy ws category → 0 < activityAt ws places Freight + massAt ws places
+    served-at served = rw (are, activity-members ws category Freight, mass-members ws category) served
 
-  -- F and P, as the code adds them up
-  module _ (places : List ℕ) (are : places ≡ members ws category) (f p : ℕ) (is-f : f ≡ activityAt ws places Freight) (is-p : p ≡ massAt ws places) where
-    pub nothing-tested : nothingToDivideBy ws category ≡ eqb (f + p) 0
-    nothing-tested = rw (is-f, is-p, are, activity-members ws category Freight, mass-members ws category)
+    -- the parts of ground 9, as the code tests them
+    pub nothing-tested : (f p : ℕ) → f ≡ activityAt ws places Freight → p ≡ massAt ws places → nothingToDivideBy ws category ≡ eqb (f + p) 0
+    nothing-tested f p is-f is-p = rw (is-f, is-p, are, activity-members ws category Freight, mass-members ws category)
 
-    pub sums-limited : sound ws ≡ true → f + p ≤ mostActivity
-    sums-limited fine =
-        rw (is-f, is-p, are, activity-members ws category Freight, mass-members ws category) (served-limited ws fine category)
-
-    pub sums-served : ToDivideBy ws category → 0 < f + p
-    sums-served served = rw (is-f, is-p, are, activity-members ws category Freight, mass-members ws category) served
-
-  -- a group's part of ground 9, as the code tests it
-  pub pool-tested : (places : List ℕ) → places ≡ members ws category → (group a b : ℕ) (r : Bool) → a ≡ pool ws category group operation → b ≡ pool ws category group provision
-      → r ≡ (ltb 0 a || ltb 0 b) && eqb (activityAt ws places (Group group)) 0
-      → r ≡ poolWithoutElements ws category group
-  pool-tested places are group a b r is-a is-b is = is ∙ rw (is-a, is-b, are, activity-members ws category (Group group))
+    pub pool-tested : (group a b : ℕ) (r : Bool) → a ≡ pool ws category group operation → b ≡ pool ws category group provision
+        → r ≡ (ltb 0 a || ltb 0 b) && eqb (activityAt ws places (Group group)) 0
+        → r ≡ poolWithoutElements ws category group
+    pool-tested group a b r is-a is-b is = is ∙ rw (is-a, is-b, are, activity-members ws category (Group group))

@@ -17,7 +17,7 @@ use Rattle.book_shares.specs.declared.pools.Pools.{Pools}
 use Rattle.book_shares.specs.declared.sharing.Parts.{Parts}
 use Rattle.book_shares.specs.declared.weights.Takers.{Takers}
 use Rattle.book_shares.specs.declared.weights.Takers.the-variants.{Group, Freight, Passengers}
-use Rattle.book_shares.specs.Dealing.{Dealable, partsBy, poolsBy}
+use Rattle.book_shares.specs.Dealing.{Dealable, partsBy, partsOf, poolsBy, dealtOut}
 use Rattle.book_shares.specs.Listing.{members, Listed, atPlaces, weightsAt, activityAt, massAt}
 use Rattle.book_shares.specs.Shares.{weights, partAt, dividedAll, freightPart, passengerPart, closingShare}
 use Rattle.book_shares.specs.Sums.{pool}
@@ -39,9 +39,11 @@ at-most-sum xs k =
     (below-or-not k (length xs))
 
 -- an accepted division writes its shares
-pub division-done : (pool : ℕ) (weights old : List ℕ) → refusal pool (length weights) (length old) (sumOf weights) ≡ 0 → sharesAfter pool weights old ≡ divided pool weights
+pub division-done : (pool : ℕ) (weights old : List ℕ) → refusal pool (length weights) (length old) (sumOf weights) ≡ 0
+    → sharesAfter pool weights old ≡ divided pool weights
 unfolding sharesAfter
-division-done pool weights old e = accepted-new (refusal pool (length weights) (length old) (sumOf weights)) (divided pool weights) old e
+division-done pool weights old e =
+    accepted-new (refusal pool (length weights) (length old) (sumOf weights)) (divided pool weights) old e
 
 module _ (ws places : List ℕ) (takers : Takers) (amount : ℕ) (d : Dealable ws places takers amount) where
   -- no part is more than the amount
@@ -55,7 +57,8 @@ module _ (ws places : List ℕ) (takers : Takers) (amount : ℕ) (d : Dealable w
       )
 
   -- such a division is accepted
-  deal-accepted : sound ws ≡ true → Listed ws places → refusal amount (length (weightsAt ws places takers)) (length places) (sumOf (weightsAt ws places takers)) ≡ 0
+  deal-accepted : sound ws ≡ true → Listed ws places
+      → refusal amount (length (weightsAt ws places takers)) (length places) (sumOf (weightsAt ws places takers)) ≡ 0
   unfolding refusal
   deal-accepted fine l =
       rw (weights-at-length ws places takers, weights-at-sum ws places takers)
@@ -84,20 +87,28 @@ module _ (ws places : List ℕ) (takers : Takers) (amount : ℕ) (d : Dealable w
       ∙ ap (λ (x : List ℕ). sharesAfter amount x old) are
       ∙ division-done amount (weightsAt ws places takers) old (rw long (deal-accepted fine l))
 
--- shares to which parts are added
-module _ (n : ℕ) where
-  pub added-within : (old new : List ℕ) (part : ℕ → ℕ) (most : ℕ) → new ≡ listBelow n (λ k. at old k + part k)
-      → ((k : ℕ) → at old k ≤ most) → ((k : ℕ) → part k ≤ largest) → (k : ℕ) → at new k ≤ most + largest
-  added-within old new part most is few small k =
-      ⊎-elim
-      (λ (here : k < n).
-      let e = ap (λ (l : List ℕ). at l k) is ∙ list-at n (λ j. at old j + part j) k here in
-      omega (arith, e, few k, small k))
-      (λ (past : n ≤ k).
-      let e = ap (λ (l : List ℕ). at l k) is ∙ list-past n (λ j. at old j + part j) k past in
-      omega (arith, e))
-      (below-or-not k n)
+-- as many shares as there are places, each at most so much
+pub record Held (n most : ℕ) (shares : List ℕ) : Type 0 where
+  pub long : length shares ≡ n
+  pub few : (k : ℕ) → at shares k ≤ most
 
+-- shares to which an amount is dealt out
+pub held-next : {ws places old new : List ℕ} {takers : Takers} {amount most : ℕ} → Held (length places) most old
+    → Dealable ws places takers amount → new ≡ dealtOut ws places takers amount old
+    → Held (length places) (most + largest) new
+held-next {ws} {places} {old} {new} {takers} {amount} {most} h d is =
+    let added : ℕ → ℕ = λ k. at old k + at (divided amount (weightsAt ws places takers)) k in
+    record {
+      long = ap length is ∙ list-length (length places) added;
+      few = λ k.
+          ⊎-elim
+          (λ (here : k < length places).
+          omega (arith, ap (λ (l : List ℕ). at l k) is ∙ list-at (length places) added k here, h .few k, dealt-within ws places takers amount d k))
+          (λ (past : length places ≤ k). omega (arith, ap (λ (l : List ℕ). at l k) is ∙ list-past (length places) added k past))
+          (below-or-not k (length places));
+    }
+
+module _ (n : ℕ) where
   pub added-four : (a b d e f : List ℕ) (p q r s : ℕ → ℕ) → ((k : ℕ) → at a k ≡ 0)
       → b ≡ listBelow n (λ k. at a k + p k)
       → d ≡ listBelow n (λ k. at b k + q k)
@@ -117,21 +128,23 @@ module _ (n : ℕ) where
       ))
 
 -- A divided by F and P, as the code does it
-pub all-divided : (a f p : ℕ) (old new : List ℕ) → length old ≡ 2 → a ≤ largest → 0 < f + p → f + p ≤ largest → new ≡ sharesAfter a (f ∷ p ∷ []) old
+pub all-divided : (a f p : ℕ) {g q : ℕ} (old new : List ℕ) → g ≡ f → q ≡ p → length old ≡ 2 → a ≤ largest → 0 < f + p → f + p ≤ largest
+    → new ≡ sharesAfter a (g ∷ q ∷ []) old
     → new ≡ divided a (f ∷ p ∷ [])
 unfolding refusal
-all-divided a f p old new two within served few is =
+all-divided a f p old new is-f is-p two within served few is =
     let total = sum-two (f ∷ p ∷ []) refl in
     let some : eqb (sumOf (f ∷ p ∷ [])) 0 ≡ false = ne-eqb (sumOf (f ∷ p ∷ [])) 0 (λ z. omega (arith, total)) in
     is
-    ∙ division-done a (f ∷ p ∷ []) old
+    ∙ rw (is-f, is-p)
+    (division-done a (f ∷ p ∷ []) old
     (rw (
       two,
       some,
       le-ltb largest a within,
       le-ltb largest (sumOf (f ∷ p ∷ [])) (omega (arith, total)),
       and-false (ltb 0 a) false refl,
-    ))
+    )))
 
 -- where one of the weights is 0, the other gets all of A
 module _ (a f p : ℕ) (served : 0 < f + p) where
@@ -153,11 +166,13 @@ module _ (a f p : ℕ) (served : 0 < f + p) where
       rw (all, nothing)
 
 -- an amount of 0 adds nothing
-pub nothing-dealt : (amount n : ℕ) (weights shares : List ℕ) → amount ≡ 0 → length shares ≡ n → shares ≡ listBelow n (λ k. at shares k + at (divided amount weights) k)
-nothing-dealt amount n weights shares none long =
+pub nothing-dealt : (ws places : List ℕ) (takers : Takers) (amount : ℕ) (shares : List ℕ) → amount ≡ 0 → length shares ≡ length places
+    → shares ≡ dealtOut ws places takers amount shares
+nothing-dealt ws places takers amount shares none long =
+    let weights = weightsAt ws places takers in
     let f : ℕ → ℕ = λ k. at shares k + at (divided amount weights) k in
-    ext-getD 0 shares (listBelow n f) (long ∙ sym (list-length n f))
-    (λ k h. omega (arith, list-at n f k (omega arith), at-most-sum (divided amount weights) k, shares-sum amount weights (inr none)))
+    ext-getD 0 shares (listBelow (length places) f) (long ∙ sym (list-length (length places) f))
+    (λ k h. omega (arith, list-at (length places) f k (omega arith), at-most-sum (divided amount weights) k, shares-sum amount weights (inr none)))
 
 -- part of an array that is 0
 pub zeros-at : (n m k : ℕ) → at (take n (replicate m 0)) k ≡ 0
@@ -168,12 +183,10 @@ zeros-at (suc n) (suc m) (suc k) = zeros-at n m k
 
 -- the two parts of A, by the sums over the category's elements
 module _ (ws : List ℕ) (category : ℕ) (side : Side) (places : List ℕ) (are : places ≡ members ws category) where
-  pub parts-found : (all activity mass : ℕ) (p : Parts) → all ≡ pool ws category 0 side → activity ≡ activityAt ws places Freight → mass ≡ massAt ws places
-      → p ≡ partsBy all activity mass
-      → p ≡ record { freight = freightPart ws category side; passengers = passengerPart ws category side }
+  pub parts-found : (q : Pools) (p : Parts) → q ≡ poolsBy ws category side → p ≡ partsBy (q .all) (activityAt ws places Freight) (massAt ws places)
+      → p ≡ partsOf ws category side
   unfolding dividedAll
-  parts-found all activity mass p is-all is-activity is-mass is =
-      is ∙ rw (is-all, is-activity, is-mass, are, activity-members ws category Freight, mass-members ws category)
+  parts-found q p is-q is = is ∙ rw (is-q, are, activity-members ws category Freight, mass-members ws category)
 
   -- what an element gets of an amount
   part-found : (takers : Takers) (amount : ℕ) → Divisible amount (weights ws category takers) → (k : ℕ) → k < length places
@@ -185,7 +198,7 @@ module _ (ws : List ℕ) (category : ℕ) (side : Side) (places : List ℕ) (are
 
   -- the parts that were dealt out are the shares
   pub shares-dealt : Handed ws category side → (p : Parts) (q : Pools)
-      → p ≡ record { freight = freightPart ws category side; passengers = passengerPart ws category side } → q ≡ poolsBy ws category side
+      → p ≡ partsOf ws category side → q ≡ poolsBy ws category side
       → listBelow (length places)
       (λ k.
       at (divided (p .freight) (weightsAt ws places Freight)) k

@@ -1,38 +1,33 @@
 -- Shares written at the places of a category's elements are those written over all places. Assumes nothing.
 use mathlib.Core.Bool.{Bool, true, false}
-use mathlib.Core.List.{List, _∷_, []}
+use mathlib.Core.List.{List}
 use mathlib.Core.Path.{_≡_, refl, sym, ap, _∙_}
-use Prim.Native.Nat.{ℕ, zero, suc, _+_, _*_, _≤_, _<_}
+use Prim.Native.Nat.{ℕ, zero, suc, _+_, _≤_, _<_}
 use native.Mathlib.Nat.{add-zero, le-refl}
 use native.Mathlib.Numerals.{add-one}
 use native.Mathlib.Omega.{arith}
+use lib.Dec.{eqb}
 use lib.ListN.{length}
 use Rattle.apportion.specs.Places.{at, countBelow}
 use Rattle.book_words.specs.Book.{elements, putShares}
 use Rattle.book_words.specs.Totals.{Side, operation, provision}
+use Rattle.book_words.specs.declared.records.Element.{Element}
 use Rattle.book_shares.specs.Closing.{handOut}
 use Rattle.book_shares.specs.Dealing.{handOutTo, listsBySide}
 use Rattle.book_shares.specs.Listing.{isMember, members, atPlaces}
 use Rattle.apportion.proofs.Lists.{list-at}
-use Rattle.book_words.proofs.Writes.{puts-length}
-use Rattle.book_shares.proofs.Closed.{put-word}
+use Rattle.book_shares.proofs.Closed.{chosen-length, handed-later}
 use Rattle.book_shares.proofs.Listed.{members-length, member-at}
 
 module _ (places ws : List ℕ) where
-  module _ (share : Side → ℕ → ℕ) where
-    pub handed-length : (n : ℕ) → length (handOutTo places n ws share) ≡ length ws
-    handed-length zero = refl
-    handed-length (suc n) =
-        puts-length (handOutTo places n ws share)
-        ((356 + 8 * at places n + 6, share operation n) ∷ (356 + 8 * at places n + 7, share provision n) ∷ [])
-        ∙ handed-length n
-
-    -- one place more, as the code counts
-    pub handed-next : (n : ℕ) → putShares (handOutTo places n ws share) (at places n) (share operation n) (share provision n) ≡ handOutTo places (n + 1) ws share
-    handed-next n = rw add-one
+  handed-length : (share : Side → ℕ → ℕ) (n : ℕ) → length (handOutTo places n ws share) ≡ length ws
+  handed-length share zero = refl
+  handed-length share (suc n) =
+      chosen-length (handOutTo places n ws share) (at places n) (share operation n) (share provision n) true ∙ handed-length share n
 
   -- only the first n shares are looked at
-  handed-cong : (n : ℕ) (f g : Side → ℕ → ℕ) → ((s : Side) (k : ℕ) → k < n → f s k ≡ g s k) → handOutTo places n ws f ≡ handOutTo places n ws g
+  handed-cong : (n : ℕ) (f g : Side → ℕ → ℕ) → ((s : Side) (k : ℕ) → k < n → f s k ≡ g s k)
+      → handOutTo places n ws f ≡ handOutTo places n ws g
   handed-cong zero f g same = refl
   handed-cong (suc n) f g same =
       rw (
@@ -40,6 +35,27 @@ module _ (places ws : List ℕ) where
         same operation n (omega arith),
         same provision n (omega arith),
       )
+
+-- The loop that writes them: the elements at the first k places have their shares.
+pub record Handing (places ws : List ℕ) (share : Side → ℕ → ℕ) (k : ℕ) (new : List ℕ) : Type 0 where
+  pub inside : k ≤ length places
+  pub so-far : new ≡ handOutTo places k ws share
+
+pub handing-start : (places ws : List ℕ) (share : Side → ℕ → ℕ) → Handing places ws share 0 ws
+handing-start places ws share = record { inside = omega arith; so-far = refl }
+
+module _ {places ws new : List ℕ} {share : Side → ℕ → ℕ} {k : ℕ} (h : Handing places ws share k new) where
+  pub handing-length : length new ≡ length ws
+  handing-length = ap length (h .so-far) ∙ handed-length places ws share k
+
+  pub handing-next : (next : List ℕ) → k < length places → next ≡ putShares new (at places k) (share operation k) (share provision k)
+      → Handing places ws share (k + 1) next
+  handing-next next i e = record { inside = omega arith; so-far = e ∙ rw (h .so-far, add-one) }
+
+  pub handing-done : length places ≤ k → new ≡ handOutTo places (length places) ws share
+  handing-done i =
+      let end : k ≡ length places = omega (arith, h .inside) in
+      h .so-far ∙ ap (λ (n : ℕ). handOutTo places n ws share) end
 
 -- up to a place, what is written is what is written at the places of the elements before it
 module _ (ws : List ℕ) (category : ℕ) (share : Side → ℕ → ℕ) where
@@ -51,14 +67,15 @@ module _ (ws : List ℕ) (category : ℕ) (share : Side → ℕ → ℕ) where
       → handOut n ws category share ≡ handOutTo (members ws category) (countBelow n (isMember ws category)) ws listedShare
   handed-upto zero h = refl
   handed-upto (suc n) h =
-      go (isMember ws category n) refl (handed-upto n (omega arith)) (put-word ws category share n (356 + 8 * n) (λ q i z. omega arith))
+      go (isMember ws category n) refl (handed-upto n (omega arith))
+      (ap (λ (r : Element). eqb (r .category) category) (handed-later ws category share n n (omega arith)))
     where
       go : (t : Bool) → isMember ws category n ≡ t
           → handOut n ws category share ≡ handOutTo (members ws category) (countBelow n (isMember ws category)) ws listedShare
-          → at (handOut n ws category share) (356 + 8 * n) ≡ at ws (356 + 8 * n)
+          → isMember (handOut n ws category share) category n ≡ isMember ws category n
           → handOut (suc n) ws category share ≡ handOutTo (members ws category) (countBelow (suc n) (isMember ws category)) ws listedShare
-      go true e rest same = rw (same, e, add-one, member-at ws category n h e, rest)
-      go false e rest same = rw (same, e, add-zero) rest
+      go true e rest same = rw (same ∙ e, e, add-one, member-at ws category n h e, rest)
+      go false e rest same = rw (same ∙ e, e, add-zero) rest
 
 -- the shares of both sides, as the code writes them
 pub sides-written : (ws : List ℕ) (category : ℕ) (share : Side → ℕ → ℕ) (places a b new : List ℕ) → places ≡ members ws category

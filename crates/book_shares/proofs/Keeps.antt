@@ -7,10 +7,10 @@ use Prim.Native.Nat.{ℕ, _≤_, _<_, _-_, _+_}
 use native.Mathlib.Nat.{eq-zero-or-pos}
 use native.Mathlib.Omega.{arith}
 use lib.Dec.{leb, eqb}
-use borrow.Author.Tests.{le-leb, ne-eqb}
+use borrow.Author.Tests.{ne-eqb}
 use Rattle.apportion.specs.Places.{sumBelow}
 use Rattle.book_words.specs.Book.{categories, categoryAt, categoryOf, entries, entryAt, elements, elementAt}
-use Rattle.book_words.specs.Measures.{massActivity, isKind, isChain, isCode, unsuited}
+use Rattle.book_words.specs.Measures.{massActivity, between, isKind, isChain, isCode, unsuited}
 use Rattle.book_words.specs.Soundness.{categoryFine, entryFine, entrySuits, elementFine, elementSuits, measured, sharesWait}
 use Rattle.book_words.specs.Totals.{Side, operation, provision, sharesOf, shareOf, unstruckOf, activities}
 use Rattle.book_words.specs.declared.records.Category.{Category}
@@ -50,7 +50,8 @@ in-other number category n ne = rw (ne-eqb category number ne)
 module _ (ws ws′ : List ℕ) (category : ℕ) (share : Side → ℕ → ℕ) where
   module _ (a : CategoryClosed ws ws′ category share) where
     -- what does not look at the shares is kept
-    pub measure-kept : (f : Element → ℕ) → ((r : Element) (x y : ℕ) → f (withShares r x y) ≡ f r) → (p : ℕ) → p < elements ws → f (elementAt ws′ p) ≡ f (elementAt ws p)
+    pub measure-kept : (f : Element → ℕ) → ((r : Element) (x y : ℕ) → f (withShares r x y) ≡ f r) → (p : ℕ) → p < elements ws
+        → f (elementAt ws′ p) ≡ f (elementAt ws p)
     measure-kept f blind p h =
         ⊎-elim
         (λ (e : elementAt ws p .category ≡ category). ap f (a .element-shared p h e) ∙ blind (elementAt ws p) (share operation p) (share provision p))
@@ -129,13 +130,13 @@ module _ (ws ws′ : List ℕ) (category : ℕ) (share : Side → ℕ → ℕ) w
         let inside = entry-inside ws r e in
         let low = between-low 1 (categories ws) (r .category) inside in
         let high = between-high 1 (categories ws) (r .category) inside in
-        let inside′ = and-both (leb 1 (r .category)) (leb (r .category) (categories ws′)) (le-leb 1 (r .category) low) (le-leb (r .category) (categories ws′) (omega (arith, a .same-categories))) in
-        sym (entry-numbered ws′ r inside′)
+        sym (entry-numbered ws′ r (ap (λ (n : ℕ). between 1 n (r .category)) (a .same-categories) ∙ inside))
         ∙ entry-suits-kind (categoryOf ws (r .category)) (categoryOf ws′ (r .category)) r (kind-kept (r .category - 1) (omega arith))
         ∙ entry-numbered ws r inside
         ∙ e
 
-    element-keeps : 1 ≤ category → category ≤ categories ws → (p : ℕ) → p < elements ws → elementFine ws (elementAt ws p) ≡ true → elementFine ws′ (elementAt ws′ p) ≡ true
+    element-keeps : 1 ≤ category → category ≤ categories ws → (p : ℕ) → p < elements ws → elementFine ws (elementAt ws p) ≡ true
+        → elementFine ws′ (elementAt ws′ p) ≡ true
     element-keeps low high p h fine =
         let r = elementAt ws p in
         ⊎-elim
@@ -168,12 +169,7 @@ module _ (ws ws′ : List ℕ) (category : ℕ) (share : Side → ℕ → ℕ) w
     close-keeps low high balance =
         let entry-sums = entries-kept ws ws′ (a .same-entries) (λ p h. a .entry-kept p (omega (arith, w .counts .entries-most))) in
         record {
-          counts = record {
-            long = omega (arith, a .same-length, w .counts .long);
-            categories-most = omega (arith, a .same-categories, w .counts .categories-most);
-            entries-most = omega (arith, a .same-entries, w .counts .entries-most);
-            elements-most = omega (arith, a .same-elements, w .counts .elements-most);
-          };
+          counts = omega (arith, a .same-length, a .same-categories, a .same-entries, a .same-elements, w .counts);
           marked = a .same-mark ∙ w .marked;
           each-category = λ p h. category-keeps p (omega (arith, a .same-categories));
           each-entry = λ p h.

@@ -70,7 +70,9 @@ module _ (ws : List ℕ) (category : ℕ) where
 
     -- Every share of the closed category is less than 3 micrograms from its exact share, both ways.
     pub share-near-exact : (p : ℕ) → p < elements ws → elementAt ws p .category ≡ category
-        → Within 3 (shareOf side (elementAt (closeBook ws category) p)) (exactOf ws category side (elementAt ws p) .numerator) (exactOf ws category side (elementAt ws p) .denominator)
+        → Within 3 (shareOf side (elementAt (closeBook ws category) p))
+        (exactOf ws category side (elementAt ws p) .numerator)
+        (exactOf ws category side (elementAt ws p) .denominator)
     share-near-exact p h is =
         let m = at-place ws (closable ws category e .fine) p h in
         rw (written side)

@@ -7,6 +7,7 @@ pub mod Nearness
 pub mod Shared
 pub mod Listed
 pub mod Results
+pub mod Filling
 pub mod Closed
 pub mod Closable
 pub mod Dealt

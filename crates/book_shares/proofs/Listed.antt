@@ -10,14 +10,17 @@ use native.Mathlib.Omega.{arith}
 use lib.ListN.{length, drop, take, set, length-append, List·getD-append}
 use lib.Seq.{getD-at, drop-cons, set-at, take-at}
 use Rattle.apportion.specs.Dividing.{divided, Divisible, largest}
-use Rattle.apportion.specs.Places.{at, oneIf, countBelow, keptBelow, kept, sumOf}
+use Rattle.apportion.specs.Places.{at, oneIf, countBelow, keptBelow, kept, sumOf, sumBelow}
 use Rattle.book_words.specs.Book.{elements, elementAt, mostElements}
 use Rattle.book_words.specs.Measures.{byMass}
 use Rattle.book_words.specs.Parts.{numberedElement}
 use Rattle.book_words.specs.Soundness.{sound}
+use Rattle.book_words.specs.Totals.{mostActivity}
 use Rattle.book_words.specs.declared.records.Element.{Element}
+use Rattle.book_shares.specs.declared.weights.Measure.{Measure}
+use Rattle.book_shares.specs.declared.weights.Measure.the-variants.{Activity, Mass}
 use Rattle.book_shares.specs.declared.weights.Takers.{Takers}
-use Rattle.book_shares.specs.declared.weights.Takers.the-variants.{Passengers}
+use Rattle.book_shares.specs.declared.weights.Takers.the-variants.{Freight, Passengers}
 use Rattle.book_shares.specs.Listing.{isMember, members, Listed, startingWith, atPlaces, taking, weightsAt, sumAt, activityAt, massAt}
 use Rattle.book_shares.specs.Shares.{weights, partAt}
 use Rattle.book_shares.specs.Sums.{among, sumAmong, activityAmong, passengersByMass}
@@ -89,7 +92,9 @@ module _ (ws : List ℕ) (category : ℕ) where
   members-inside = kept-inside (elements ws) (isMember ws category)
 
   -- a sum over the category's elements
-  sum-members : (takers : Takers) (measure : Element → ℕ) → sumAt ws (members ws category) (taking takers measure) ≡ sumAmong ws category takers measure
+  sum-members : (takers : Takers) (measure : Element → ℕ)
+      → sumBelow (length (members ws category)) (λ i. taking takers measure (elementAt ws (at (members ws category) i)))
+      ≡ sumAmong ws category takers measure
   sum-members takers measure =
       rw members-length
       (sum-kept (isMember ws category) (elements ws)
@@ -99,11 +104,11 @@ module _ (ws : List ℕ) (category : ℕ) where
       (λ p h e. rw e))
 
   pub activity-members : (takers : Takers) → activityAt ws (members ws category) takers ≡ activityAmong ws category takers
-  unfolding activityAt activityAmong
+  unfolding sumAt activityAmong
   activity-members takers = sum-members takers (λ e. e .activity)
 
   pub mass-members : massAt ws (members ws category) ≡ passengersByMass ws category
-  unfolding massAt passengersByMass
+  unfolding sumAt passengersByMass
   mass-members = sum-members Passengers byMass
 
   -- a list over all places, at those of the category's elements
@@ -139,7 +144,7 @@ module _ (ws places : List ℕ) (takers : Takers) where
   weights-at-length = list-length (length places) _
 
   pub weights-at-sum : sumOf (weightsAt ws places takers) ≡ activityAt ws places takers
-  unfolding weightsAt activityAt
+  unfolding weightsAt sumAt
   weights-at-sum = list-sum (length places) _
 
 -- a pool that can be divided over the book can be divided over the category's elements
@@ -167,5 +172,12 @@ module _ (ws places : List ℕ) (fine : sound ws ≡ true) (l : Listed ws places
   listed-activity takers =
       rw (l .are, activity-members ws (l .category) takers) (activity-limited ws fine (l .category) takers)
 
-  pub listed-mass : massAt ws places ≤ largest
-  listed-mass = rw (l .are, mass-members ws (l .category)) (omega (arith, served-limited ws fine (l .category)))
+  -- F and P together
+  pub listed-served : activityAt ws places Freight + massAt ws places ≤ mostActivity
+  listed-served =
+      rw (l .are, activity-members ws (l .category) Freight, mass-members ws (l .category)) (served-limited ws fine (l .category))
+
+  -- each sum over them
+  pub listed-limited : (measure : Measure) → sumAt ws places measure ≤ largest
+  listed-limited (Activity takers) = listed-activity takers
+  listed-limited Mass = omega (arith, listed-served)

@@ -48,7 +48,8 @@ module _ (ws : List ℕ) (category : ℕ) (side : Side) where
   pooling-next {k} {pools} next a h e = go (eqb (entryAt ws k .category) category) refl e
     where
       -- an entry of another category adds nothing
-      still : {sum : ℕ} (group : ℕ) → eqb (entryAt ws k .category) category ≡ false → Adding (entries ws) k sum (added group) → sum ≡ capped (sum + added group k)
+      still : {sum : ℕ} (group : ℕ) → eqb (entryAt ws k .category) category ≡ false → Adding (entries ws) k sum (added group)
+          → sum ≡ capped (sum + added group k)
       still group is b = rw is (omega (arith, b .so-far))
 
       go : (t : Bool) → eqb (entryAt ws k .category) category ≡ t

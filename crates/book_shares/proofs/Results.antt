@@ -7,31 +7,39 @@ use Prim.Native.Nat.{ℕ, _<_, _*_, _^_, _+_, zero, suc}
 use native.Mathlib.Nat.{add-zero}
 use native.Mathlib.Omega.{arith}
 use lib.Dec.{eqb, ltb}
-use lib.ListN.{take, drop}
 use borrow.Author.Tests.{eq-eqb, ne-eqb, not-false, ltb-false, leb-true}
-use Rattle.apportion.specs.Grounds.{accepted, firstOf}
-use Rattle.book_words.specs.Book.{categoryOf, categories, unnumbered, isClosed}
+use Rattle.apportion.specs.Grounds.{accepted, firstOf, groundsBefore}
+use Rattle.book_words.specs.Book.{categoryOf, categories}
 use Rattle.book_words.specs.Measures.{nearest, between, isHub}
 use Rattle.book_words.specs.Soundness.{sound}
 use Rattle.book_words.specs.Totals.{Side, capped, operation, provision}
 use Rattle.book_shares.specs.declared.intensities.Intensity.{Intensity}
 use Rattle.book_shares.specs.declared.pools.Pools.{Pools}
+use Rattle.book_shares.specs.declared.sharing.Parts.{Parts}
+use Rattle.book_shares.specs.declared.weights.Takers.{Takers}
 use Rattle.book_shares.specs.declared.weights.Takers.the-variants.{Group, Passengers, Freight}
-use Rattle.book_shares.specs.Dealing.{ToDivideBy, scaleTens, Allowed, lacksActivityAt, poolsBy, groupPool}
+use Rattle.book_shares.specs.Dealing.{ToDivideBy, scaleTens, Allowed, lacksActivityAt, partsOf, poolsBy, groupPool}
 use Rattle.book_shares.specs.Intensities.{lacksActivity, intensityOf, scale, mostResult, intensityRefusal, isIntensityCode, passesIntensity, intensityReply, intensityGrounds}
-use Rattle.book_shares.specs.Listing.{members}
-use Rattle.book_shares.specs.Shares.{passengerPart, freightPart}
+use Rattle.book_shares.specs.Listing.{members, activityAt, massAt}
 use Rattle.book_shares.specs.Sums.{activityAmong, pool}
-use Rattle.apportion.proofs.Grounds.{or-none, first-none, passed, first-prefix}
+use Rattle.apportion.proofs.Grounds.{or-none, none-holds, decided-from}
 use Rattle.book_words.proofs.Capping.{capped-both, capped-over}
 use Rattle.book_words.proofs.Kept.{same-or-not}
 use Rattle.book_words.proofs.Ranges.{above-zero}
 use Rattle.book_shares.proofs.Bounds.{mass-tenth}
+use Rattle.book_shares.proofs.Closable.{served-at}
 use Rattle.book_shares.proofs.Listed.{activity-members}
+
+tens-scale : (kind : ℕ) → 10 ^ scaleTens kind ≡ scale kind
+tens-scale kind = go (isHub kind)
+  where
+    go : (t : Bool) → 10 ^ cond t 0 3 ≡ cond t 1 1000
+    go true = refl
+    go false = refl
 
 module _ (ws : List ℕ) (category code : ℕ) where
   -- where ground 9 does not hold, there is an activity to divide by
-  pub some-passengers : lacksActivity ws category code ≡ false → code ≡ 100 → 0 < activityAmong ws category Passengers
+  some-passengers : lacksActivity ws category code ≡ false → code ≡ 100 → 0 < activityAmong ws category Passengers
   some-passengers h is = above-zero (activityAmong ws category Passengers) (rw (eq-eqb code 100 is) at h)
 
   freight-parts : lacksActivity ws category code ≡ false → (code ≡ 100 → ⊥)
@@ -40,13 +48,13 @@ module _ (ws : List ℕ) (category code : ℕ) where
       or-none (eqb (activityAmong ws category Freight) 0) (not (eqb code 0) && eqb (activityAmong ws category (Group code)) 0)
       (rw (ne-eqb code 100 other) at h)
 
-  pub some-freight : lacksActivity ws category code ≡ false → (code ≡ 100 → ⊥) → 0 < activityAmong ws category Freight
+  some-freight : lacksActivity ws category code ≡ false → (code ≡ 100 → ⊥) → 0 < activityAmong ws category Freight
   some-freight h other = above-zero (activityAmong ws category Freight) (freight-parts h other .0)
 
-  pub some-group : lacksActivity ws category code ≡ false → (code ≡ 100 → ⊥) → (code ≡ 0 → ⊥) → 0 < activityAmong ws category (Group code)
+  some-group : lacksActivity ws category code ≡ false → (code ≡ 100 → ⊥) → (code ≡ 0 → ⊥) → 0 < activityAmong ws category (Group code)
   some-group h other grouped = above-zero (activityAmong ws category (Group code)) (rw (ne-eqb code 0 grouped) at (freight-parts h other .1))
 
-  pub activity-to-divide-by : sound ws ≡ true → lacksActivity ws category code ≡ false → ToDivideBy ws category
+  activity-to-divide-by : sound ws ≡ true → lacksActivity ws category code ≡ false → ToDivideBy ws category
   activity-to-divide-by fine h =
       ⊎-elim
       (λ (is : code ≡ 100). omega (arith, some-passengers h is, mass-tenth ws fine category))
@@ -54,7 +62,7 @@ module _ (ws : List ℕ) (category code : ℕ) where
       (same-or-not code 100)
 
   -- the pool of a code that is neither ambient nor passengers
-  pub group-found : (side : Side) (q : Pools) → q ≡ poolsBy ws category side → isIntensityCode code ≡ true → (code ≡ 100 → ⊥) → (code ≡ 0 → ⊥)
+  group-found : (side : Side) (q : Pools) → q ≡ poolsBy ws category side → isIntensityCode code ≡ true → (code ≡ 100 → ⊥) → (code ≡ 0 → ⊥)
       → groupPool q code ≡ pool ws category code side
   group-found side q is known other grouped =
       rw is
@@ -68,65 +76,23 @@ module _ (ws : List ℕ) (category code : ℕ) where
           let small = leb-true code 2 (rw (ne-eqb code 100 other, or-false) at known) in
           omega arith
 
-  -- the results, as the code makes them
-  module _ (side : Side) where
-    pub passengers-result : (amount total r : ℕ) → code ≡ 100 → amount ≡ passengerPart ws category side → total ≡ activityAmong ws category Passengers
-        → r ≡ capped (nearest (amount * 100) total) → r ≡ capped (intensityOf ws category code side)
-    unfolding intensityOf
-    passengers-result amount total r is e f g = rw (← e, ← f, eq-eqb code 100 is) g
-
-    tens-scale : (kind : ℕ) → 10 ^ scaleTens kind ≡ scale kind
-    tens-scale kind = go (isHub kind)
-      where
-        go : (t : Bool) → 10 ^ cond t 0 3 ≡ cond t 1 1000
-        go true = refl
-        go false = refl
-
-    module _ (tens amount total first : ℕ) (other : code ≡ 100 → ⊥) (is-tens : tens ≡ scaleTens (categoryOf ws category .kind))
-        (e : amount ≡ freightPart ws category side) (f : total ≡ activityAmong ws category Freight) (g : first ≡ capped (nearest (amount * 10 ^ tens) total)) where
-      unit : 10 ^ tens ≡ scale (categoryOf ws category .kind)
-      unit = ap (λ (n : ℕ). 10 ^ n) is-tens ∙ tens-scale (categoryOf ws category .kind)
-
-      pub freight-result : code ≡ 0 → first ≡ capped (intensityOf ws category code side)
-      unfolding intensityOf
-      freight-result none = rw (← e, ← f, ← unit, ne-eqb code 100 other, eq-eqb code 0 none, add-zero) g
-
-      pub group-result : (more share second r : ℕ) → (code ≡ 0 → ⊥) → more ≡ pool ws category code side → share ≡ activityAmong ws category (Group code)
-          → second ≡ capped (nearest (more * 10 ^ tens) share) → r ≡ capped (first + second) → r ≡ capped (intensityOf ws category code side)
-      unfolding intensityOf
-      group-result more share second r grouped h i j k =
-          let sum : capped (first + second) ≡ capped (nearest (amount * 10 ^ tens) total + nearest (more * 10 ^ tens) share) =
-          rw (g, j) (capped-both (nearest (amount * 10 ^ tens) total) (nearest (more * 10 ^ tens) share)) in
-          rw (← e, ← f, ← h, ← i, ← unit, ne-eqb code 100 other, ne-eqb code 0 grouped) (k ∙ sum)
-
   -- none of the grounds before 9 holds
   pub record Early : Type 0 where
     pub fine : sound ws ≡ true
     pub numbered : between 1 (categories ws) category ≡ true
     pub known : isIntensityCode code ≡ true
-    pub late : intensityRefusal ws category code ≡ firstOf (drop 4 (intensityGrounds ws category code))
+    pub late : intensityRefusal ws category code ≡ cond (lacksActivity ws category code) 9 (cond (passesIntensity ws category code) 10 0)
 
-  pub early : firstOf (take 4 (intensityGrounds ws category code)) ≡ 0 → Early
+  pub early : firstOf (groundsBefore 9 (intensityGrounds ws category code)) ≡ 0 → Early
   unfolding intensityRefusal
   early e =
-      let one = first-none 0 (not (sound ws)) _ e in
-      let two = first-none 1 (unnumbered (categories ws) category) _ (one .1) in
-      let three = first-none 2 (not (isIntensityCode code)) _ (two .1) in
-      let five = first-none 4 (not (isClosed ws category)) _ (three .1) in
+      let none = none-holds (groundsBefore 9 (intensityGrounds ws category code)) refl e in
       record {
-        fine = not-false (sound ws) (one .0);
-        numbered = not-false (between 1 (categories ws) category) (two .0);
-        known = not-false (isIntensityCode code) (three .0);
-        late = passed 1 (one .0) ∙ passed 2 (two .0) ∙ passed 3 (three .0) ∙ passed 5 (five .0);
+        fine = not-false (sound ws) (none 1);
+        numbered = not-false (between 1 (categories ws) category) (none 2);
+        known = not-false (isIntensityCode code) (none 3);
+        late = decided-from 9 (intensityGrounds ws category code) refl e;
       }
-
-  -- where one of them does, it gives the number
-  pub earlier-refused : (n : ℕ) → n ≡ firstOf (take 4 (intensityGrounds ws category code)) → (n ≡ 0 → ⊥) → n ≡ intensityRefusal ws category code
-  unfolding intensityRefusal
-  earlier-refused n e ne =
-      let before = take 4 (intensityGrounds ws category code) in
-      let after = drop 4 (intensityGrounds ws category code) in
-      e ∙ sym (first-prefix before after (λ z. ne (e ∙ z)))
 
   -- ground 9, by the sums over the category's elements
   pub nine : (places : List ℕ) → places ≡ members ws category → lacksActivityAt ws places code ≡ lacksActivity ws category code
@@ -152,7 +118,8 @@ module _ (ws : List ℕ) (category code : ℕ) where
   uncapped side r h e = omega (arith, ltb-false mostResult r h, e)
 
   -- the reply of a refused call, and that of an accepted one
-  pub reply-refused : (n : ℕ) → n ≡ intensityRefusal ws category code → (n ≡ 0 → ⊥) → record { refusal = n; operation = 0; provision = 0 } ≡ intensityReply ws category code
+  pub reply-refused : (n : ℕ) → n ≡ intensityRefusal ws category code → (n ≡ 0 → ⊥)
+      → record { refusal = n; operation = 0; provision = 0 } ≡ intensityReply ws category code
   unfolding intensityReply
   reply-refused n is ne = go n (intensityRefusal ws category code) is ne
     where
@@ -166,7 +133,53 @@ module _ (ws : List ℕ) (category code : ℕ) where
       go n zero e h = absurd (h e)
       go n (suc m) e h = rw e
 
-  pub reply-accepted : (a b : ℕ) → intensityRefusal ws category code ≡ 0 → a ≡ intensityOf ws category code operation → b ≡ intensityOf ws category code provision
+  pub reply-accepted : (a b : ℕ) → intensityRefusal ws category code ≡ 0
+      → a ≡ intensityOf ws category code operation → b ≡ intensityOf ws category code provision
       → record { refusal = 0; operation = a; provision = b } ≡ intensityReply ws category code
   unfolding intensityReply
   reply-accepted a b none e f = rw (none, e, f)
+
+-- Where an intensity is allowed, over the category's elements by their places: what is divided by is above 0, and the results
+-- are those that the code makes.
+module _ {ws : List ℕ} {category code : ℕ} {places : List ℕ} (ok : Allowed ws category code) (are : places ≡ members ws category) where
+  found : (takers : Takers) → activityAt ws places takers ≡ activityAmong ws category takers
+  found takers = rw are (activity-members ws category takers)
+
+  pub all-there : 0 < activityAt ws places Freight + massAt ws places
+  all-there = served-at ws category places are (activity-to-divide-by ws category code (ok .fine) (ok .some-activity))
+
+  pub passengers-there : code ≡ 100 → 0 < activityAt ws places Passengers
+  passengers-there is = rw (found Passengers) (some-passengers ws category code (ok .some-activity) is)
+
+  pub freight-there : (code ≡ 100 → ⊥) → 0 < activityAt ws places Freight
+  freight-there other = rw (found Freight) (some-freight ws category code (ok .some-activity) other)
+
+  pub group-there : (code ≡ 100 → ⊥) → (code ≡ 0 → ⊥) → 0 < activityAt ws places (Group code)
+  group-there other grouped = rw (found (Group code)) (some-group ws category code (ok .some-activity) other grouped)
+
+  module _ (side : Side) {p : Parts} (are-parts : p ≡ partsOf ws category side) where
+    pub passengers-result : (r : ℕ) → code ≡ 100 → r ≡ capped (nearest (p .passengers * 100) (activityAt ws places Passengers))
+        → r ≡ capped (intensityOf ws category code side)
+    unfolding intensityOf
+    passengers-result r is e = e ∙ rw (are-parts, found Passengers, eq-eqb code 100 is)
+
+    module _ {tens first : ℕ} (other : code ≡ 100 → ⊥) (is-tens : tens ≡ scaleTens (categoryOf ws category .kind))
+        (is-first : first ≡ capped (nearest (p .freight * 10 ^ tens) (activityAt ws places Freight))) where
+      unit : 10 ^ tens ≡ scale (categoryOf ws category .kind)
+      unit = ap (λ (n : ℕ). 10 ^ n) is-tens ∙ tens-scale (categoryOf ws category .kind)
+
+      pub freight-result : code ≡ 0 → first ≡ capped (intensityOf ws category code side)
+      unfolding intensityOf
+      freight-result none =
+          is-first ∙ rw (unit, are-parts, found Freight, ne-eqb code 100 other, eq-eqb code 0 none, add-zero)
+
+      pub group-result : (q : Pools) (more second r : ℕ) → (code ≡ 0 → ⊥) → q ≡ poolsBy ws category side → more ≡ groupPool q code
+          → second ≡ capped (nearest (more * 10 ^ tens) (activityAt ws places (Group code))) → r ≡ capped (first + second)
+          → r ≡ capped (intensityOf ws category code side)
+      unfolding intensityOf
+      group-result q more second r grouped are-pools is-more is-second is =
+          let pooled = is-more ∙ group-found ws category code side q are-pools (ok .known) other grouped in
+          let sum : capped (first + second)
+          ≡ capped (nearest (p .freight * 10 ^ tens) (activityAt ws places Freight) + nearest (more * 10 ^ tens) (activityAt ws places (Group code))) =
+          rw (is-first, is-second) (capped-both _ _) in
+          is ∙ sum ∙ rw (unit, are-parts, pooled, found Freight, found (Group code), ne-eqb code 100 other, ne-eqb code 0 grouped)

@@ -145,7 +145,9 @@ module _ (ws : List ℕ) (category : ℕ) (side : Side) where
 
   -- and each part of it is near to its exact part
   all-near : ToDivideBy ws category → (k : ℕ)
-      → Within 1 (at (dividedAll ws category side) k) (pool ws category 0 side * at both-weights k) (activityAmong ws category Freight + passengersByMass ws category)
+      → Within 1 (at (dividedAll ws category side) k)
+      (pool ws category 0 side * at both-weights k)
+      (activityAmong ws category Freight + passengersByMass ws category)
   unfolding dividedAll
   all-near served k = rw (sum-two both-weights refl) at (share-near (pool ws category 0 side) both-weights (both-some served) k)
 
@@ -226,7 +228,9 @@ module _ (ws : List ℕ) (category : ℕ) (side : Side) (h : Handed ws category 
 
   -- its share of the freight part (k is 0) or of the passenger part (k is 1) of A
   of-all-near : (k : ℕ) (takers : Takers) → takesPart ws category takers p ≡ true
-      → Within 2 (partAt ws category takers (at (dividedAll ws category side) k) p) (A * at (F ∷ P ∷ []) k * activity) ((F + P) * activityAmong ws category takers)
+      → Within 2 (partAt ws category takers (at (dividedAll ws category side) k) p)
+      (A * at (F ∷ P ∷ []) k * activity)
+      ((F + P) * activityAmong ws category takers)
   of-all-near k takers e =
       near-chain (all-near ws category side (h .served) k)
       (part-near ws category takers (at (dividedAll ws category side) k) p here e some)
@@ -261,7 +265,9 @@ module _ (ws : List ℕ) (category : ℕ) (side : Side) (h : Handed ws category 
   freight-alone : code ≤ 2
       → closingShare ws category side p ≡ freightShare ws category side p + (groupShare ws category side p 1 + groupShare ws category side p 2)
   unfolding closingShare
-  freight-alone l = omega (arith, passengers-none ws category side h p (goes-outside ws category Passengers p (between-outside 100 1000 code (inl (omega arith)))))
+  freight-alone l =
+      let outside = goes-outside ws category Passengers p (between-outside 100 1000 code (inl (omega arith))) in
+      omega (arith, passengers-none ws category side h p outside)
 
   ambient-alone : code ≡ 0 → closingShare ws category side p ≡ freightShare ws category side p
   ambient-alone e =

@@ -4,9 +4,10 @@ use mathlib.Core.List.{List, _∷_, []}
 use Prim.Native.Nat.{ℕ, _+_, zero, suc}
 use lib.Dec.{ltb, eqb}
 use Rattle.apportion.specs.Grounds.{Ground, firstOf, accepted}
-use Rattle.book_words.specs.Book.{unnumbered, categories, isClosed, elementAt, elements, putShares, closeCategory}
+use Rattle.book_words.specs.Book.{unnumbered, categories, categoryOf, hasClosed, elementAt, elements, putShares, closeCategory}
 use Rattle.book_words.specs.Soundness.{sound}
 use Rattle.book_words.specs.Totals.{operation, provision, Side}
+use Rattle.book_words.specs.declared.records.Category.{Category}
 use Rattle.book_shares.specs.declared.weights.Takers.the-variants.{Group, Freight}
 use Rattle.book_shares.specs.Shares.{closingShare}
 use Rattle.book_shares.specs.Sums.{pool, activityAmong, passengersByMass}
@@ -21,13 +22,17 @@ poolWithoutElements ws category group =
 abbrev pub nothingToDivideBy : List ℕ → ℕ → Bool
 nothingToDivideBy ws category = eqb (activityAmong ws category Freight + passengersByMass ws category) 0
 
-abbrev pub closeGrounds : List ℕ → ℕ → List Ground
-closeGrounds ws category =
+-- `here` is the record of the category
+abbrev pub closeGroundsIn : List ℕ → ℕ → Category → List Ground
+closeGroundsIn ws category here =
     (1, not (sound ws))
     ∷ (2, unnumbered (categories ws) category)
-    ∷ (4, isClosed ws category)
+    ∷ (4, hasClosed here)
     ∷ (9, nothingToDivideBy ws category || poolWithoutElements ws category 1 || poolWithoutElements ws category 2)
     ∷ []
+
+abbrev pub closeGrounds : List ℕ → ℕ → List Ground
+closeGrounds ws category = closeGroundsIn ws category (categoryOf ws category)
 
 unfoldable pub closeRefusal : List ℕ → ℕ → ℕ
 closeRefusal ws category = firstOf (closeGrounds ws category)

@@ -4,8 +4,9 @@ use mathlib.Core.List.{List, _∷_, []}
 use mathlib.Core.Path.{_≡_}
 use Prim.Native.Nat.{ℕ, _<_, _+_, _≤_, zero, suc}
 use lib.Dec.{eqb}
+use lib.ListN.{length}
 use Rattle.apportion.specs.Dividing.{Divisible, divided, largest}
-use Rattle.apportion.specs.Places.{at}
+use Rattle.apportion.specs.Places.{at, listBelow}
 use Rattle.book_words.specs.Book.{categories, putShares}
 use Rattle.book_words.specs.Measures.{between, isHub}
 use Rattle.book_words.specs.Soundness.{sound}
@@ -19,6 +20,7 @@ use Rattle.book_shares.specs.declared.weights.Takers.{Takers}
 use Rattle.book_shares.specs.declared.weights.Takers.the-variants.{Freight, Group, Passengers}
 use Rattle.book_shares.specs.Intensities.{isIntensityCode, lacksActivity}
 use Rattle.book_shares.specs.Listing.{weightsAt, activityAt}
+use Rattle.book_shares.specs.Shares.{freightPart, passengerPart}
 use Rattle.book_shares.specs.Sums.{activityAmong, passengersByMass, pool}
 
 -- the side that a stage is
@@ -66,10 +68,19 @@ partsBy all activity mass =
       passengers = at (divided all (activity ∷ mass ∷ [])) 1;
     }
 
+-- and so the two parts of A of a category
+abbrev pub partsOf : List ℕ → ℕ → Side → Parts
+partsOf ws category side = record { freight = freightPart ws category side; passengers = passengerPart ws category side }
+
 -- an amount that can be dealt out over the elements at these places
 pub record Dealable (ws places : List ℕ) (takers : Takers) (amount : ℕ) : Type 0 where
   pub divisible : Divisible amount (weightsAt ws places takers)
   pub within : amount ≤ largest
+
+-- these shares, to each of which the part of an amount is added that the element at its place gets
+abbrev pub dealtOut : List ℕ → List ℕ → Takers → ℕ → List ℕ → List ℕ
+dealtOut ws places takers amount shares =
+    listBelow (length places) (λ k. at shares k + at (divided amount (weightsAt ws places takers)) k)
 
 -- two lists by their sides
 abbrev pub listsBySide : List ℕ → List ℕ → Side → ℕ → ℕ

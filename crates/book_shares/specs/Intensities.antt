@@ -4,10 +4,11 @@ use mathlib.Core.List.{List, _∷_, []}
 use Prim.Native.Nat.{ℕ, _*_, _+_}
 use lib.Dec.{eqb, ltb}
 use Rattle.apportion.specs.Grounds.{Ground, firstOf, accepted}
-use Rattle.book_words.specs.Book.{categoryOf, unnumbered, categories, isClosed}
+use Rattle.book_words.specs.Book.{categoryOf, unnumbered, categories, hasClosed}
 use Rattle.book_words.specs.Measures.{isFreight, isHub, nearest}
 use Rattle.book_words.specs.Soundness.{sound}
 use Rattle.book_words.specs.Totals.{Side, operation, provision}
+use Rattle.book_words.specs.declared.records.Category.{Category}
 use Rattle.book_shares.specs.declared.intensities.Intensity.{Intensity}
 use Rattle.book_shares.specs.declared.weights.Takers.the-variants.{Group, Freight, Passengers}
 use Rattle.book_shares.specs.Shares.{freightPart, passengerPart}
@@ -59,15 +60,19 @@ abbrev pub passesIntensity : List ℕ → ℕ → ℕ → Bool
 passesIntensity ws category code =
     ltb mostResult (intensityOf ws category code operation) || ltb mostResult (intensityOf ws category code provision)
 
-abbrev pub intensityGrounds : List ℕ → ℕ → ℕ → List Ground
-intensityGrounds ws category code =
+-- `here` is the record of the category
+abbrev pub intensityGroundsIn : List ℕ → ℕ → ℕ → Category → List Ground
+intensityGroundsIn ws category code here =
     (1, not (sound ws))
     ∷ (2, unnumbered (categories ws) category)
     ∷ (3, not (isIntensityCode code))
-    ∷ (5, not (isClosed ws category))
+    ∷ (5, not (hasClosed here))
     ∷ (9, lacksActivity ws category code)
     ∷ (10, passesIntensity ws category code)
     ∷ []
+
+abbrev pub intensityGrounds : List ℕ → ℕ → ℕ → List Ground
+intensityGrounds ws category code = intensityGroundsIn ws category code (categoryOf ws category)
 
 unfoldable pub intensityRefusal : List ℕ → ℕ → ℕ → ℕ
 intensityRefusal ws category code = firstOf (intensityGrounds ws category code)

@@ -9,6 +9,8 @@ use Rattle.apportion.specs.Places.{at, keptBelow, listBelow, sumBelow}
 use Rattle.book_words.specs.Book.{elements, elementAt}
 use Rattle.book_words.specs.Measures.{byMass}
 use Rattle.book_words.specs.declared.records.Element.{Element}
+use Rattle.book_shares.specs.declared.weights.Measure.{Measure}
+use Rattle.book_shares.specs.declared.weights.Measure.the-variants.{Activity, Mass}
 use Rattle.book_shares.specs.declared.weights.Takers.{Takers}
 use Rattle.book_shares.specs.declared.weights.Takers.the-variants.{Passengers}
 use Rattle.book_shares.specs.Sums.{takes}
@@ -38,18 +40,23 @@ atPlaces places f = listBelow (length places) (λ i. f (at places i))
 abbrev pub taking : Takers → (Element → ℕ) → Element → ℕ
 taking takers measure e = cond (takes takers (e .code)) (measure e) 0
 
+-- what an element adds to a sum: F, C and S are sums of activities, P is the passengers' by mass
+abbrev pub measureOf : Measure → Element → ℕ
+measureOf (Activity takers) = taking takers (λ e. e .activity)
+measureOf Mass = taking Passengers byMass
+
 -- the weights of the elements at these places
 unfoldable pub weightsAt : List ℕ → List ℕ → Takers → List ℕ
 weightsAt ws places takers = atPlaces places (λ p. taking takers (λ e. e .activity) (elementAt ws p))
 
--- the sum of what the elements at these places measure
-abbrev pub sumAt : List ℕ → List ℕ → (Element → ℕ) → ℕ
-sumAt ws places measure = sumBelow (length places) (λ i. measure (elementAt ws (at places i)))
+-- the sum of what the elements at these places add
+unfoldable pub sumAt : List ℕ → List ℕ → Measure → ℕ
+sumAt ws places measure = sumBelow (length places) (λ i. measureOf measure (elementAt ws (at places i)))
 
 -- their activity: F, C and S
-unfoldable pub activityAt : List ℕ → List ℕ → Takers → ℕ
-activityAt ws places takers = sumAt ws places (taking takers (λ e. e .activity))
+abbrev pub activityAt : List ℕ → List ℕ → Takers → ℕ
+activityAt ws places takers = sumAt ws places (Activity takers)
 
 -- their passengers by mass: P
-unfoldable pub massAt : List ℕ → List ℕ → ℕ
-massAt ws places = sumAt ws places (taking Passengers byMass)
+abbrev pub massAt : List ℕ → List ℕ → ℕ
+massAt ws places = sumAt ws places Mass

@@ -3,10 +3,10 @@ ghost use mathlib.Core.Bool.{true, _||_, _&&_};
 ghost use mathlib.Core.Path.{_≡_};
 ghost use Prim.Native.Nat.{ℕ, _≤_, _<_};
 ghost use lib.Dec.{ltb, eqb};
-ghost use lib.ListN.{length, take};
-ghost use Rattle.apportion.specs.Grounds.{firstOf};
+ghost use lib.ListN.{length};
+ghost use Rattle.apportion.specs.Grounds.{firstOf, groundsBefore};
 ghost use Rattle.apportion.specs.Places.{at};
-ghost use Rattle.book_words.specs.Book.{bookLength, mostElements, putShares};
+ghost use Rattle.book_words.specs.Book.{bookLength, mostCategories, mostElements, closeCategory, putShares};
 ghost use Rattle.book_words.specs.Soundness.{sound};
 ghost use Rattle.book_shares.specs.declared.pools.Stage.the-variants.{Operation, Provision};
 ghost use Rattle.book_shares.specs.declared.weights.Takers.the-variants.{Group};
@@ -20,6 +20,12 @@ use crate::pools::Stage;
 use crate::sharing::set_shares;
 use crate::weights;
 use crate::weights::Takers;
+use apportion::first_of;
+use book_words::CATEGORY_LIST;
+use book_words::CLOSED_WORD;
+use book_words::ELEMENT_LIST;
+use book_words::OPERATION_SHARE_WORD;
+use book_words::PROVISION_SHARE_WORD;
 
 // Closes a category of a book that is known to be sound, and answers the refusal number.
 pub fn close_sound(book: &mut [u64], category: u64) -> u64
@@ -39,21 +45,18 @@ pub fn close_sound(book: &mut [u64], category: u64) -> u64
 // The number of the first ground before 9 that holds, or 0.
 fn refusal_number(book: &[u64], category: u64) -> u64
     requires { ⌜ sound (now book) ≡ true ⌝ }
-    ensures { λ r. ⌜ r ≡ firstOf (take 3 (closeGrounds (now (book .entry)) category)) ⌝ }
+    ensures { λ r. ⌜ r ≡ firstOf (groundsBefore 9 (closeGrounds (now (book .entry)) category)) ⌝ }
 {
-    if !((1 <= category) & (category <= book[book_words::CATEGORIES])) {
-        return 2;
-    }
-    let r = book_words::category_of(book, category);
-    if r.closed != 0 {
-        return 4;
-    }
-    0
+    let categories = book[book_words::CATEGORIES];
+    let here = book_words::category_of(book, category);
+    let unnumbered = !((1 <= category) & (category <= categories));
+    let closed = here.closed != 0;
+    first_of(&[2, 4], &[unnumbered, closed])
 }
 
 // The same for a category that is there and not closed, with its elements listed.
 fn close_members(book: &mut [u64], category: u64, members: &[usize]) -> u64
-    requires { ⌜ firstOf (take 3 (closeGrounds (now book) category)) ≡ 0 ⌝ }
+    requires { ⌜ firstOf (groundsBefore 9 (closeGrounds (now book) category)) ≡ 0 ⌝ }
     requires { ⌜ now members ≡ membersOf (now book) category ⌝ }
     ensures { λ r. ⌜ r ≡ closeRefusal (now (book .entry)) category ⌝ }
     ensures { λ _. ⌜ now (book .exit) ≡ closeBook (now (book .entry)) category ⌝ }
@@ -69,7 +72,10 @@ fn close_members(book: &mut [u64], category: u64, members: &[usize]) -> u64
 fn lacks_elements(book: &[u64], category: u64, members: &[usize]) -> bool
     requires { ⌜ sound (now book) ≡ true ⌝ }
     requires { ⌜ now members ≡ membersOf (now book) category ⌝ }
-    ensures { λ r. ⌜ r ≡ nothingToDivideBy (now (book .entry)) category || poolWithoutElements (now (book .entry)) category 1 || poolWithoutElements (now (book .entry)) category 2 ⌝ }
+    ensures { λ r. ⌜ r
+        ≡ nothingToDivideBy (now (book .entry)) category
+        || poolWithoutElements (now (book .entry)) category 1
+        || poolWithoutElements (now (book .entry)) category 2 ⌝ }
 {
     let activity = weights::activity_among(book, members, Takers::Freight);
     let mass = weights::passengers_by_mass(book, members);
@@ -136,8 +142,16 @@ fn settle_sides(
     set_shares(book, category, members, Stage::Operation, operation);
     set_shares(book, category, members, Stage::Provision, provision);
     hand_out(book, members, operation, provision);
+    set_closed(book, category);
+}
+
+// Sets the closed word of the category of this number.
+fn set_closed(book: &mut [u64], category: u64)
+    requires { ⌜ (bookLength ≤ length (now book)) × (1 ≤ category) × (category ≤ mostCategories) ⌝ }
+    ensures { λ _. ⌜ now (book .exit) ≡ closeCategory (now (book .entry)) category ⌝ }
+{
     let place = category as usize - 1;
-    book[book_words::FIRST_CATEGORY + book_words::CATEGORY_WORDS * place + 1] = 1;
+    book[CATEGORY_LIST.first + CATEGORY_LIST.width * place + CLOSED_WORD] = 1;
 }
 
 // Writes the shares of the elements at these places.
@@ -145,7 +159,9 @@ fn hand_out(book: &mut [u64], members: &[usize], operation: &[u64], provision: &
     requires { ⌜ sound (now book) ≡ true ⌝ }
     requires { ⌜ Listed (now book) (now members) ⌝ }
     requires { ⌜ (length (now operation) ≡ length (now members)) × (length (now provision) ≡ length (now members)) ⌝ }
-    ensures { λ _. ⌜ now (book .exit) ≡ handOutTo (now (members .entry)) (length (now (members .entry))) (now (book .entry)) (listsBySide (now (operation .entry)) (now (provision .entry))) ⌝ }
+    ensures { λ _. ⌜ now (book .exit)
+        ≡ handOutTo (now (members .entry)) (length (now (members .entry))) (now (book .entry))
+        (listsBySide (now (operation .entry)) (now (provision .entry))) ⌝ }
 {
     let mut next = 0;
     while next < members.len() {
@@ -159,7 +175,7 @@ fn give_shares(book: &mut [u64], place: usize, operation: u64, provision: u64)
     requires { ⌜ (bookLength ≤ length (now book)) × (place < mostElements) ⌝ }
     ensures { λ _. ⌜ now (book .exit) ≡ putShares (now (book .entry)) place operation provision ⌝ }
 {
-    let at = book_words::FIRST_ELEMENT + book_words::ELEMENT_WORDS * place;
-    book[at + 6] = operation;
-    book[at + 7] = provision;
+    let at = ELEMENT_LIST.first + ELEMENT_LIST.width * place;
+    book[at + OPERATION_SHARE_WORD] = operation;
+    book[at + PROVISION_SHARE_WORD] = provision;
 }

@@ -2,21 +2,21 @@
 ghost use mathlib.Core.Bool.{true};
 ghost use mathlib.Core.Path.{_≡_};
 ghost use Prim.Native.Nat.{_<_, _≤_, _*_, _^_};
-ghost use lib.ListN.{take};
 ghost use Rattle.apportion.specs.Dividing.{largest};
-ghost use Rattle.apportion.specs.Grounds.{firstOf};
+ghost use Rattle.apportion.specs.Grounds.{firstOf, groundsBefore};
 ghost use Rattle.book_words.specs.Measures.{nearest};
 ghost use Rattle.book_words.specs.Soundness.{sound};
 ghost use Rattle.book_words.specs.Totals.{capped};
 ghost use Rattle.book_shares.specs.Dealing.{sideAt, scaleTens, lacksActivityAt, Allowed};
 ghost use Rattle.book_shares.specs.Intensities.{intensityReply, intensityGrounds, intensityOf};
-ghost use Rattle.book_shares.specs.Listing.{Listed, members as membersOf};
+ghost use Rattle.book_shares.specs.Listing.{Listed, members as membersOf, activityAt};
 use crate::listing::list_members;
 use crate::pools;
 use crate::pools::Stage;
 use crate::sharing;
 use crate::weights;
 use crate::weights::Takers;
+use apportion::first_of;
 
 // The largest result, 10^15.
 const MOST_RESULT: u64 = 1_000_000_000_000_000;
@@ -58,24 +58,19 @@ fn refused(refusal: u64) -> Intensity
 // The number of the first ground before 9 that holds, or 0.
 fn refusal_number(book: &[u64], category: u64, code: u64) -> u64
     requires { ⌜ sound (now book) ≡ true ⌝ }
-    ensures { λ r. ⌜ r ≡ firstOf (take 4 (intensityGrounds (now (book .entry)) category code)) ⌝ }
+    ensures { λ r. ⌜ r ≡ firstOf (groundsBefore 9 (intensityGrounds (now (book .entry)) category code)) ⌝ }
 {
-    if !((1 <= category) & (category <= book[book_words::CATEGORIES])) {
-        return 2;
-    }
-    if !((code <= 2) | (code == 100)) {
-        return 3;
-    }
-    let r = book_words::category_of(book, category);
-    if r.closed == 0 {
-        return 5;
-    }
-    0
+    let categories = book[book_words::CATEGORIES];
+    let here = book_words::category_of(book, category);
+    let unnumbered = !((1 <= category) & (category <= categories));
+    let unknown = !((code <= 2) | (code == 100));
+    let unclosed = !(here.closed != 0);
+    first_of(&[2, 3, 5], &[unnumbered, unknown, unclosed])
 }
 
 // The same where none of these holds, with the category's elements listed.
 fn measure_members(book: &[u64], category: u64, code: u64, members: &[usize]) -> Intensity
-    requires { ⌜ firstOf (take 4 (intensityGrounds (now book) category code)) ≡ 0 ⌝ }
+    requires { ⌜ firstOf (groundsBefore 9 (intensityGrounds (now book) category code)) ≡ 0 ⌝ }
     requires { ⌜ now members ≡ membersOf (now book) category ⌝ }
     ensures { λ r. ⌜ r ≡ intensityReply (now (book .entry)) category code ⌝ }
 {
@@ -115,21 +110,31 @@ fn result(book: &[u64], category: u64, code: u64, members: &[usize], stage: Stag
     ensures { λ r. ⌜ r ≡ capped (intensityOf (now (book .entry)) category code (sideAt stage)) ⌝ }
 {
     let pools = pools::pools_of(book, category, stage);
-    let activity = weights::activity_among(book, members, Takers::Freight);
-    let mass = weights::passengers_by_mass(book, members);
-    let parts = sharing::divide_all(pools.all, activity, mass);
+    let parts = sharing::divide_all(book, members, pools.all);
     if code == 100 {
-        let total = weights::activity_among(book, members, Takers::Passengers);
-        return quotient(parts.passengers, 2, total);
+        return per_activity(book, members, Takers::Passengers, parts.passengers, 2);
     }
     let tens = scale_tens(book_words::category_of(book, category).kind);
-    let freight = quotient(parts.freight, tens, activity);
+    let freight = per_activity(book, members, Takers::Freight, parts.freight, tens);
     if code == 0 {
         return freight;
     }
     let amount = pools::group_pool(pools, code);
-    let total = weights::activity_among(book, members, Takers::Group(code));
-    book_words::add(freight, quotient(amount, tens, total))
+    book_words::add(
+        freight,
+        per_activity(book, members, Takers::Group(code), amount, tens),
+    )
+}
+
+// An amount × 10^tens by the activity of the elements that it goes to, nearest, halves up, capped.
+fn per_activity(book: &[u64], members: &[usize], takers: Takers, amount: u64, tens: u64) -> u64
+    requires { ⌜ sound (now book) ≡ true ⌝ }
+    requires { ⌜ Listed (now book) (now members) ⌝ }
+    requires { ⌜ 0 < activityAt (now book) (now members) takers ⌝ }
+    ensures { λ r. ⌜ r ≡ capped (nearest (amount * 10 ^ tens) (activityAt (now (book .entry)) (now (members .entry)) takers)) ⌝ }
+{
+    let total = weights::activity_among(book, members, takers);
+    quotient(amount, tens, total)
 }
 
 // How many tens the scale of a kind is the product of: none for a hub, else three.

@@ -7,6 +7,7 @@ ghost use Rattle.apportion.specs.Places.{oneIf};
 ghost use Rattle.book_words.specs.Book.{bookLength, elements, mostElements};
 ghost use Rattle.book_words.specs.Soundness.{sound};
 ghost use Rattle.book_shares.specs.Listing.{isMember, members, startingWith};
+use book_words::ELEMENT_LIST;
 
 // Lists the place after those listed so far, where its element is of the category, and answers how many
 // are listed then.
@@ -22,7 +23,7 @@ fn list_place(
     ensures { λ r. ⌜ r ≡ listed + oneIf (isMember (now (book .entry)) category place) ⌝ }
     ensures { λ _. ⌜ now (places .exit) ≡ cond (isMember (now (book .entry)) category place) (set (now (places .entry)) listed place) (now (places .entry)) ⌝ }
 {
-    if book[book_words::FIRST_ELEMENT + book_words::ELEMENT_WORDS * place] == category {
+    if book[ELEMENT_LIST.first + ELEMENT_LIST.width * place] == category {
         places[listed] = place;
         return listed + 1;
     }

@@ -6,9 +6,10 @@ ghost use lib.ListN.{length};
 ghost use Rattle.apportion.specs.Dividing.{largest, divided};
 ghost use Rattle.apportion.specs.Places.{at, listBelow};
 ghost use Rattle.book_words.specs.Soundness.{sound};
+ghost use Rattle.book_shares.specs.declared.weights.Takers.the-variants.{Freight};
 ghost use Rattle.book_shares.specs.Closing.{closeRefusal};
-ghost use Rattle.book_shares.specs.Dealing.{sideAt, Dealable, partsBy};
-ghost use Rattle.book_shares.specs.Listing.{Listed, members as membersOf, weightsAt, atPlaces};
+ghost use Rattle.book_shares.specs.Dealing.{sideAt, Dealable, partsBy, dealtOut};
+ghost use Rattle.book_shares.specs.Listing.{Listed, members as membersOf, weightsAt, activityAt, massAt, atPlaces};
 ghost use Rattle.book_shares.specs.Shares.{closingShare};
 use crate::pools;
 use crate::pools::Stage;
@@ -22,11 +23,16 @@ pub struct Parts {
     pub passengers: u64,
 }
 
-// Divides A by the weights F and P, in that order. Where one of them is 0, the other gets all.
-pub fn divide_all(all: u64, activity: u64, mass: u64) -> Parts
-    requires { ⌜ (all ≤ largest) × (0 < activity + mass) × (activity + mass ≤ largest) ⌝ }
-    ensures { λ r. ⌜ r ≡ partsBy all activity mass ⌝ }
+// Divides A by the weights F and P of these elements, in that order. Where one of them is 0, the other gets all.
+pub fn divide_all(book: &[u64], members: &[usize], all: u64) -> Parts
+    requires { ⌜ sound (now book) ≡ true ⌝ }
+    requires { ⌜ Listed (now book) (now members) ⌝ }
+    requires { ⌜ (all ≤ largest) × (0 < activityAt (now book) (now members) Freight + massAt (now book) (now members)) ⌝ }
+    ensures { λ r. ⌜ r
+        ≡ partsBy all (activityAt (now (book .entry)) (now (members .entry)) Freight) (massAt (now (book .entry)) (now (members .entry))) ⌝ }
 {
+    let activity = weights::activity_among(book, members, Takers::Freight);
+    let mass = weights::passengers_by_mass(book, members);
     if mass == 0 {
         return Parts {
             freight: all,
@@ -55,7 +61,7 @@ fn deal(book: &[u64], members: &[usize], takers: Takers, amount: u64, shares: &m
     requires { ⌜ Dealable (now book) (now members) takers amount ⌝ }
     requires { ⌜ length (now shares) ≡ length (now members) ⌝ }
     requires { ⌜ ((k : ℕ) → at (now shares) k ≤ 3 * largest) ⌝ }
-    ensures { λ _. ⌜ now (shares .exit) ≡ listBelow (length (now (members .entry))) (λ k. at (now (shares .entry)) k + at (divided amount (weightsAt (now (book .entry)) (now (members .entry)) takers)) k) ⌝ }
+    ensures { λ _. ⌜ now (shares .exit) ≡ dealtOut (now (book .entry)) (now (members .entry)) takers amount (now (shares .entry)) ⌝ }
 {
     if amount == 0 {
         return;
@@ -91,7 +97,7 @@ fn deal_parts(
     requires { ⌜ ((k : ℕ) → at (now shares) k ≤ 3 * largest) ⌝ }
     ensures { λ _. ⌜ now (weights .exit) ≡ weightsAt (now (book .entry)) (now (members .entry)) takers ⌝ }
     ensures { λ _. ⌜ now (parts .exit) ≡ divided amount (weightsAt (now (book .entry)) (now (members .entry)) takers) ⌝ }
-    ensures { λ _. ⌜ now (shares .exit) ≡ listBelow (length (now (members .entry))) (λ k. at (now (shares .entry)) k + at (divided amount (weightsAt (now (book .entry)) (now (members .entry)) takers)) k) ⌝ }
+    ensures { λ _. ⌜ now (shares .exit) ≡ dealtOut (now (book .entry)) (now (members .entry)) takers amount (now (shares .entry)) ⌝ }
 {
     set_weights(book, members, takers, weights);
     // Accepted: where the weights sum to 0 the amount is 0, and both are within 10^18.
@@ -121,10 +127,8 @@ pub fn set_shares(book: &[u64], category: u64, members: &[usize], stage: Stage, 
     requires { ⌜ ((k : ℕ) → at (now shares) k ≡ 0) ⌝ }
     ensures { λ _. ⌜ now (shares .exit) ≡ atPlaces (now (members .entry)) (closingShare (now (book .entry)) category (sideAt stage)) ⌝ }
 {
-    let activity = weights::activity_among(book, members, Takers::Freight);
-    let mass = weights::passengers_by_mass(book, members);
     let pools = pools::pools_of(book, category, stage);
-    let parts = divide_all(pools.all, activity, mass);
+    let parts = divide_all(book, members, pools.all);
     deal(book, members, Takers::Freight, parts.freight, shares);
     deal(book, members, Takers::Passengers, parts.passengers, shares);
     deal(book, members, Takers::Group(1), pools.chilled, shares);

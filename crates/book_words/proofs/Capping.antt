@@ -1,5 +1,5 @@
 -- Capped sums and products: they decide every ground as the sums and products do. Assumes nothing.
-use mathlib.Core.Bool.{true, _&&_}
+use mathlib.Core.Bool.{Bool, true, false, _&&_}
 use mathlib.Core.Logic.{⊎-elim}
 use mathlib.Core.Path.{ap, _≡_, _∙_, sym}
 use Prim.Native.Nat.{ℕ, _≤_, _+_, _*_, zero, suc, _<_, _/_}
@@ -44,32 +44,24 @@ product-within a b some h = le-div-iff-mul-le {y = largest} some .0 h
 pub capped-more : (a b : ℕ) → capped (a + capped b) ≡ capped (a + b)
 capped-more a b = omega arith
 
--- a capped sum passes a limit as the sum does
-pub capped-over : (limit n : ℕ) → limit ≤ largest → ltb limit (capped n) ≡ ltb limit n
-capped-over limit n h =
+-- a test that answers alike past the cap answers of a capped number as of the number
+capped-test : (test : ℕ → Bool) (t : Bool) (n : ℕ) → ((m : ℕ) → largest < m → test m ≡ t) → test (capped n) ≡ test n
+capped-test test t n past =
     ⊎-elim
-    (λ (l : n < suc largest). rw (capped-small n (omega arith)))
-    (λ (g : suc largest ≤ n). lt-ltb limit (capped n) (omega arith) ∙ sym (lt-ltb limit n (omega arith)))
+    (λ (l : n < suc largest). ap test (capped-small n (omega arith)))
+    (λ (g : suc largest ≤ n). past (capped n) (omega arith) ∙ sym (past n g))
     (below-or-not n (suc largest))
 
--- a capped sum is within a limit as the sum is
+-- so it passes a limit, and is within one
+pub capped-over : (limit n : ℕ) → limit ≤ largest → ltb limit (capped n) ≡ ltb limit n
+capped-over limit n h = capped-test (ltb limit) true n (λ m g. lt-ltb limit m (omega arith))
+
 pub capped-within : (limit n : ℕ) → limit ≤ largest → leb (capped n) limit ≡ leb n limit
-capped-within limit n h =
-    ⊎-elim
-    (λ (l : n < suc largest). rw (capped-small n (omega arith)))
-    (λ (g : suc largest ≤ n). lt-leb (capped n) limit (omega arith) ∙ sym (lt-leb n limit (omega arith)))
-    (below-or-not n (suc largest))
+capped-within limit n h = capped-test (λ m. leb m limit) false n (λ m g. lt-leb m limit (omega arith))
 
 -- of two numbers of which one is within the cap, the capped are equal as the numbers are
 pub capped-equal : (a b : ℕ) → b ≤ largest → eqb (capped a) (capped b) ≡ eqb a b
-capped-equal a b h =
-    ⊎-elim
-    (λ (l : a < suc largest). rw (capped-small a (omega arith), capped-small b h))
-    (λ (g : suc largest ≤ a). ne-eqb (capped a) (capped b) (λ e. omega arith) ∙ sym (ne-eqb a b (λ e. omega arith)))
-    (below-or-not a (suc largest))
-
-pub capped-added : (a b : ℕ) → ltb largest (a + capped b) ≡ ltb largest (a + b)
-capped-added a b = sym (capped-over largest (a + capped b) (omega arith)) ∙ ap (ltb largest) (capped-more a b) ∙ capped-over largest (a + b) (omega arith)
+capped-equal a b h = rw (capped-small b h) (capped-test (λ m. eqb m b) false a (λ m g. ne-eqb m b (λ e. omega arith)))
 
 -- the sums of ground 10: each is within its limit, and then none is capped
 pub within-parts : (sums : Sums) → withinLimits sums ≡ true

@@ -1,18 +1,20 @@
 -- What a sound book has. Assumes nothing.
-use mathlib.Core.Bool.{true, _&&_, false, and-true}
+use mathlib.Core.Bool.{true, _&&_}
 use mathlib.Core.List.{List}
-use mathlib.Core.Path.{_≡_, refl}
-use Prim.Native.Nat.{ℕ, _≤_}
+use mathlib.Core.Path.{_≡_, refl, _∙_}
+use Prim.Native.Nat.{ℕ, _<_}
+use native.Mathlib.Omega.{arith}
 use lib.Dec.{leb, eqb}
 use lib.ListN.{length}
 use borrow.Author.Tests.{leb-true, eqb-true}
 use Rattle.apportion.specs.Places.{at}
 use Rattle.book_words.specs.Book.{mark, bookLength, categories, mostCategories, entries, mostEntries, elements, mostElements}
-use Rattle.book_words.specs.Parts.{CountsWithin, Limited, countIn, recordFine}
+use Rattle.book_words.specs.Parts.{CountsWithin, Limited, listFine}
 use Rattle.book_words.specs.Soundness.{headerFine, sumsFine, categoriesFine, entriesFine, elementsFine, closingsFine, sound, allBelow}
-use Rattle.book_words.specs.Totals.{operation, provision, activities, mostActivity, sumsOf, withinLimits}
-use Rattle.book_words.proofs.Booleans.{both, and-false}
+use Rattle.book_words.specs.Totals.{operation, provision, sumsOf, withinLimits}
+use Rattle.book_words.proofs.Booleans.{both}
 use Rattle.book_words.proofs.Capping.{within-parts}
+use Rattle.book_words.proofs.Every.{every-at}
 
 module _ (ws : List ℕ) where
   header-parts : headerFine ws ≡ true → CountsWithin ws × (at ws 0 ≡ mark)
@@ -42,16 +44,19 @@ module _ (ws : List ℕ) where
   pub header-marked : headerFine ws ≡ true → at ws 0 ≡ mark
   header-marked e = header-parts e .1
 
-  sums-limits : sumsFine ws ≡ true → withinLimits (sumsOf ws) ≡ true
+  pub sums-limits : sumsFine ws ≡ true → withinLimits (sumsOf ws) ≡ true
   unfolding sumsFine
   sums-limits e = e
 
-  pub sums-limited : sumsFine ws ≡ true → Limited ws
-  sums-limited e operation = within-parts (sumsOf ws) (sums-limits e) .0
-  sums-limited e provision = within-parts (sumsOf ws) (sums-limits e) .1
+  -- amounts within the limits of ground 10, side by side
+  pub limits-limited : withinLimits (sumsOf ws) ≡ true → Limited ws
+  limits-limited e operation = within-parts (sumsOf ws) e .0
+  limits-limited e provision = within-parts (sumsOf ws) e .1
 
-  pub sums-active : sumsFine ws ≡ true → activities ws ≤ mostActivity
-  sums-active e = within-parts (sumsOf ws) (sums-limits e) .2
+  -- the lists in their order are the test
+  pub lists-sound : allBelow 6 (listFine ws) ≡ sound ws
+  unfolding listFine sound categoriesFine entriesFine elementsFine closingsFine
+  lists-sound = refl
 
   -- the parts of the test
   pub record Parts : Type 0 where
@@ -63,25 +68,16 @@ module _ (ws : List ℕ) where
     pub closings : closingsFine ws ≡ true
 
   pub sound-parts : sound ws ≡ true → Parts
-  unfolding sound
+  unfolding listFine categoriesFine entriesFine elementsFine closingsFine
   sound-parts e =
-      let h = headerFine ws in
-      let c = categoriesFine ws in
-      let n = entriesFine ws in
-      let l = elementsFine ws in
-      let s = sumsFine ws in
-      let closings = both (h && c && n && l && s) (closingsFine ws) e in
-      let sums = both (h && c && n && l) s (closings .0) in
-      let elements = both (h && c && n) l (sums .0) in
-      let entries = both (h && c) n (elements .0) in
-      let categories = both h c (entries .0) in
+      let part = every-at 6 (listFine ws) (lists-sound ∙ e) in
       record {
-        header = categories .0;
-        all-categories = categories .1;
-        all-entries = entries .1;
-        all-elements = elements .1;
-        sums = sums .1;
-        closings = closings .1;
+        header = part 0 (omega arith);
+        all-categories = part 1 (omega arith);
+        all-entries = part 2 (omega arith);
+        all-elements = part 3 (omega arith);
+        sums = part 4 (omega arith);
+        closings = part 5 (omega arith);
       }
 
   pub sound-counted : sound ws ≡ true → CountsWithin ws
@@ -90,15 +86,12 @@ module _ (ws : List ℕ) where
   pub sound-sums : sound ws ≡ true → withinLimits (sumsOf ws) ≡ true
   sound-sums e = sums-limits (sound-parts e .sums)
 
-  -- the test by its parts, as the code takes them
-  pub sound-no-header : headerFine ws ≡ false → false ≡ sound ws
-  unfolding sound
-  sound-no-header e = rw e
+  -- past the header the counts are within their limits, and past the sums they are too
+  module _ (list : ℕ) (before : allBelow list (listFine ws) ≡ true) where
+    pub past-header : 0 < list → CountsWithin ws
+    unfolding listFine
+    past-header h = header-counted (every-at list (listFine ws) before 0 h)
 
-  pub sound-no-sums : sumsFine ws ≡ false → false ≡ sound ws
-  unfolding sound
-  sound-no-sums e = rw (e, and-false (headerFine ws && categoriesFine ws && entriesFine ws && elementsFine ws) false refl)
-
-  pub sound-records : headerFine ws ≡ true → sumsFine ws ≡ true → allBelow 4 (λ t. allBelow (countIn ws t) (recordFine ws t)) ≡ sound ws
-  unfolding sound categoriesFine entriesFine elementsFine closingsFine
-  sound-records h s = rw (h, s, and-true)
+    pub past-sums : 4 < list → Limited ws
+    unfolding listFine
+    past-sums h = limits-limited (sums-limits (every-at list (listFine ws) before 4 h))

@@ -16,7 +16,7 @@ use Rattle.book_words.specs.Soundness.{sound, elementSuits}
 use Rattle.book_words.specs.Totals.{Side, operation, provision, shareOf, unstruck, sharesOf, unstruckOf, allUnstruck}
 use Rattle.book_words.specs.declared.records.Element.{Element}
 use Rattle.apportion.proofs.Sums.{sum-cong, sum-le, sum-zero}
-use Rattle.book_words.proofs.Booleans.{both, cond-most}
+use Rattle.book_words.proofs.Booleans.{both, cond-cong, cond-same, cond-most}
 use Rattle.book_words.proofs.Ranges.{between-low, between-high}
 use Rattle.book_words.proofs.Rules.{entry-inside, element-inside, element-quoted, element-numbered, suits-parts, quoted-parts}
 use Rattle.book_words.proofs.Wholes.{Whole, sound-whole}
@@ -27,29 +27,20 @@ waiting-none : (t : Bool) (r : Element) → t ≡ true → cond t (eqb (r .opera
 waiting-none t r is e operation = eqb-true (r .operation) 0 (both (eqb (r .operation) 0) (eqb (r .provision) 0) (rw is at e) .0)
 waiting-none t r is e provision = eqb-true (r .provision) 0 (both (eqb (r .operation) 0) (eqb (r .provision) 0) (rw is at e) .1)
 
--- where the category of this number is closed, so is that of a record that has it
-in-closed : (closed : ℕ → Bool) (category number n : ℕ) → closed number ≡ true → cond (eqb category number) n 0 ≡ cond (eqb category number) (cond (closed category) n 0) 0
-in-closed closed category number n is = go (eqb category number) refl
-  where
-    go : (t : Bool) → eqb category number ≡ t → cond t n 0 ≡ cond t (cond (closed category) n 0) 0
-    go true e = rw (eqb-true category number e, is)
-    go false e = refl
-
--- where it is open, such a record adds nothing
-in-open : (closed : ℕ → Bool) (category number n : ℕ) → closed number ≡ false → cond (eqb category number) (cond (closed category) n 0) 0 ≡ 0
-in-open closed category number n is = go (eqb category number) refl
-  where
-    go : (t : Bool) → eqb category number ≡ t → cond t (cond (closed category) n 0) 0 ≡ 0
-    go true e = rw (eqb-true category number e, is)
-    go false e = refl
-
 -- what is 0 where the number is met adds nothing
 met-none : (category number n : ℕ) → (category ≡ number → n ≡ 0) → cond (eqb category number) n 0 ≡ 0
-met-none category number n none = go (eqb category number) refl
-  where
-    go : (t : Bool) → eqb category number ≡ t → cond t n 0 ≡ 0
-    go true e = none (eqb-true category number e)
-    go false e = refl
+met-none category number n none =
+    cond-cong (eqb category number) n 0 (λ e. none (eqb-true category number e)) ∙ cond-same (eqb category number) 0
+
+-- all shares, what an entry adds where its category is closed, and what the entries of a category add where it is closed
+abbrev allShares : List ℕ → Side → ℕ
+allShares ws side = sumBelow (elements ws) (λ p. shareOf side (elementAt ws p))
+
+abbrev closedUnstruck : List ℕ → Side → ℕ → ℕ
+closedUnstruck ws side p = cond (isClosed ws (entryAt ws p .category)) (unstruck side (entryAt ws p)) 0
+
+abbrev closedIn : List ℕ → Side → ℕ → ℕ
+closedIn ws side number = sumBelow (entries ws) (λ p. cond (eqb (entryAt ws p .category) number) (closedUnstruck ws side p) 0)
 
 module _ (ws : List ℕ) (fine : sound ws ≡ true) where
   -- the facts of the book
@@ -71,14 +62,17 @@ module _ (ws : List ℕ) (fine : sound ws ≡ true) where
       (between-low 1 (categories ws) (entryAt ws p .category) inside, between-high 1 (categories ws) (entryAt ws p .category) inside)
 
   -- an enrolled element suits its category
-  element-suited : (p : ℕ) → p < elements ws → (elementAt ws p .category ≡ 0 → ⊥) → elementSuits (categoryOf ws (elementAt ws p .category)) (elementAt ws p) ≡ true
+  element-suited : (p : ℕ) → p < elements ws → (elementAt ws p .category ≡ 0 → ⊥)
+      → elementSuits (categoryOf ws (elementAt ws p .category)) (elementAt ws p) ≡ true
   element-suited p h enrolled = element-numbered ws (elementAt ws p) enrolled (category-inside p h) ∙ whole .each-element p h
 
   -- the shares of an element in an open category are 0
-  pub open-shares : (p : ℕ) → p < elements ws → (elementAt ws p .category ≡ 0 → ⊥) → isClosed ws (elementAt ws p .category) ≡ false → (side : Side) → shareOf side (elementAt ws p) ≡ 0
+  pub open-shares : (p : ℕ) → p < elements ws → (elementAt ws p .category ≡ 0 → ⊥) → isClosed ws (elementAt ws p .category) ≡ false
+      → (side : Side) → shareOf side (elementAt ws p) ≡ 0
   open-shares p h enrolled unclosed =
       let k = categoryOf ws (elementAt ws p .category) in
-      waiting-none (eqb (k .closed) 0) (elementAt ws p) (not-false (eqb (k .closed) 0) unclosed) (suits-parts k (elementAt ws p) (element-suited p h enrolled) .shares-wait)
+      waiting-none (eqb (k .closed) 0) (elementAt ws p) (not-false (eqb (k .closed) 0) unclosed)
+      (suits-parts k (elementAt ws p) (element-suited p h enrolled) .shares-wait)
 
   -- an element's chain is from 1 to 10,000
   pub chain-inside : (p : ℕ) → p < elements ws → (1 ≤ elementAt ws p .chain) × (elementAt ws p .chain ≤ mostChains)
@@ -91,12 +85,8 @@ module _ (ws : List ℕ) (fine : sound ws ≡ true) where
       (eq-zero-or-pos (elementAt ws p .category)) in
       (between-low 1 mostChains (elementAt ws p .chain) inside, between-high 1 mostChains (elementAt ws p .chain) inside)
 
-  -- what an entry adds where its category is closed
-  abbrev closedUnstruck : Side → ℕ → ℕ
-  closedUnstruck side p = cond (isClosed ws (entryAt ws p .category)) (unstruck side (entryAt ws p)) 0
-
   -- all shares are the shares in the categories and the quoted shares
-  shares-by-category : (side : Side) → sumBelow (elements ws) (λ p. shareOf side (elementAt ws p)) ≡ sharesOf ws 0 side + sumBelow (categories ws) (λ j. sharesOf ws (j + 1) side)
+  shares-by-category : (side : Side) → allShares ws side ≡ sharesOf ws 0 side + sumBelow (categories ws) (λ j. sharesOf ws (j + 1) side)
   unfolding sharesOf
   shares-by-category side =
       let kept : ℕ → ℕ = λ number. sumBelow (elements ws) (λ p. cond (eqb (elementAt ws p .category) number) (shareOf side (elementAt ws p)) 0) in
@@ -107,20 +97,21 @@ module _ (ws : List ℕ) (fine : sound ws ≡ true) where
       ∙ sum-first (categories ws) kept
 
   -- the shares in a category are its unstruck entries where it is closed
-  category-handed : (side : Side) (j : ℕ) → j < categories ws → sharesOf ws (j + 1) side ≡ sumBelow (entries ws) (λ p. cond (eqb (entryAt ws p .category) (j + 1)) (closedUnstruck side p) 0)
+  category-handed : (side : Side) (j : ℕ) → j < categories ws → sharesOf ws (j + 1) side ≡ closedIn ws side (j + 1)
   unfolding sharesOf unstruckOf
   category-handed side j h = go (isClosed ws (j + 1)) refl
     where
-      go : (t : Bool) → isClosed ws (j + 1) ≡ t → sharesOf ws (j + 1) side ≡ sumBelow (entries ws) (λ p. cond (eqb (entryAt ws p .category) (j + 1)) (closedUnstruck side p) 0)
+      go : (t : Bool) → isClosed ws (j + 1) ≡ t → sharesOf ws (j + 1) side ≡ closedIn ws side (j + 1)
       go true e =
           let back : j + 1 - 1 ≡ j = omega arith in
-          whole .balanced j h
-          (λ z. eqb-false (categoryOf ws (j + 1) .closed) 0 (not-true (eqb (categoryOf ws (j + 1) .closed) 0) e) (ap (λ (q : ℕ). categoryAt ws q .closed) back ∙ z))
-          side
+          let is = eqb-false (categoryOf ws (j + 1) .closed) 0 (not-true (eqb (categoryOf ws (j + 1) .closed) 0) e) in
+          whole .balanced j h (λ z. is (ap (λ (q : ℕ). categoryAt ws q .closed) back ∙ z)) side
           ∙ sum-cong (entries ws)
           (λ p. cond (eqb (entryAt ws p .category) (j + 1)) (unstruck side (entryAt ws p)) 0)
-          (λ p. cond (eqb (entryAt ws p .category) (j + 1)) (closedUnstruck side p) 0)
-          (λ p i. in-closed (isClosed ws) (entryAt ws p .category) (j + 1) (unstruck side (entryAt ws p)) e)
+          (λ p. cond (eqb (entryAt ws p .category) (j + 1)) (closedUnstruck ws side p) 0)
+          (λ p i.
+          cond-cong (eqb (entryAt ws p .category) (j + 1)) (unstruck side (entryAt ws p)) (closedUnstruck ws side p)
+          (λ same. rw (eqb-true (entryAt ws p .category) (j + 1) same, e)))
       go false e =
           sum-zero (elements ws)
           (λ p. cond (eqb (elementAt ws p .category) (j + 1)) (shareOf side (elementAt ws p)) 0)
@@ -129,24 +120,24 @@ module _ (ws : List ℕ) (fine : sound ws ≡ true) where
           (λ z. open-shares p i (λ none. omega arith) (ap (isClosed ws) z ∙ e) side))
           ∙ sym
           (sum-zero (entries ws)
-          (λ p. cond (eqb (entryAt ws p .category) (j + 1)) (closedUnstruck side p) 0)
-          (λ p i. in-open (isClosed ws) (entryAt ws p .category) (j + 1) (unstruck side (entryAt ws p)) e))
+          (λ p. cond (eqb (entryAt ws p .category) (j + 1)) (closedUnstruck ws side p) 0)
+          (λ p i. met-none (entryAt ws p .category) (j + 1) (closedUnstruck ws side p) (λ z. rw (z, e))))
 
   -- all shares are the unstruck entries of closed categories and the quoted shares
-  pub shares-all : (side : Side) → sumBelow (elements ws) (λ p. shareOf side (elementAt ws p)) ≡ sumBelow (entries ws) (λ p. cond (isClosed ws (entryAt ws p .category)) (unstruck side (entryAt ws p)) 0) + sharesOf ws 0 side
+  pub shares-all : (side : Side) → allShares ws side ≡ sumBelow (entries ws) (λ p. closedUnstruck ws side p) + sharesOf ws 0 side
   shares-all side =
       let in-categories =
       sum-cong (categories ws)
       (λ j. sharesOf ws (j + 1) side)
-      (λ j. sumBelow (entries ws) (λ p. cond (eqb (entryAt ws p .category) (j + 1)) (closedUnstruck side p) 0))
+      (λ j. closedIn ws side (j + 1))
       (category-handed side) in
       let gathered =
-      sum-by-key 1 (categories ws) (entries ws) (λ p. entryAt ws p .category) (closedUnstruck side)
+      sum-by-key 1 (categories ws) (entries ws) (λ p. entryAt ws p .category) (closedUnstruck ws side)
       (λ p h. (entry-category p h .0, omega (arith, entry-category p h .1))) in
       omega (arith, shares-by-category side, in-categories, gathered)
 
   -- and so they are within 10^18
-  pub shares-limited : (side : Side) → sumBelow (elements ws) (λ p. shareOf side (elementAt ws p)) ≤ largest
+  pub shares-limited : (side : Side) → allShares ws side ≤ largest
   unfolding allUnstruck
   shares-limited side =
       omega (
@@ -154,13 +145,15 @@ module _ (ws : List ℕ) (fine : sound ws ≡ true) where
         shares-all side,
         whole .limited side,
         sum-le (entries ws)
-            (closedUnstruck side)
+            (closedUnstruck ws side)
             (λ p. unstruck side (entryAt ws p))
             (λ p h. cond-most (isClosed ws (entryAt ws p .category)) (unstruck side (entryAt ws p))),
       )
 
   -- the shares by chains, from 1 to 10,000, are all shares
-  pub shares-by-chain : (side : Side) → sumBelow mostChains (λ j. sumBelow (elements ws) (λ p. cond (eqb (elementAt ws p .chain) (j + 1)) (shareOf side (elementAt ws p)) 0)) ≡ sumBelow (elements ws) (λ p. shareOf side (elementAt ws p))
+  pub shares-by-chain : (side : Side)
+      → sumBelow mostChains (λ j. sumBelow (elements ws) (λ p. cond (eqb (elementAt ws p .chain) (j + 1)) (shareOf side (elementAt ws p)) 0))
+      ≡ allShares ws side
   shares-by-chain side =
       sum-by-key 1 mostChains (elements ws) (λ p. elementAt ws p .chain) (λ p. shareOf side (elementAt ws p))
       (λ p h. (chain-inside p h .0, omega (arith, chain-inside p h .1)))

@@ -38,7 +38,8 @@ key-once low (suc m) key x above below =
     (eq-or-lt-of-le below)
 
 -- a sum by keys from `low` on is the sum: each place has one key
-pub sum-by-key : (low m n : ℕ) (key f : ℕ → ℕ) → ((k : ℕ) → k < n → (low ≤ key k) × (key k < low + m)) → sumBelow m (λ j. sumBelow n (λ k. cond (eqb (key k) (j + low)) (f k) 0)) ≡ sumBelow n f
+pub sum-by-key : (low m n : ℕ) (key f : ℕ → ℕ) → ((k : ℕ) → k < n → (low ≤ key k) × (key k < low + m))
+    → sumBelow m (λ j. sumBelow n (λ k. cond (eqb (key k) (j + low)) (f k) 0)) ≡ sumBelow n f
 sum-by-key low m n key f inside =
     sum-swap m n (λ j k. cond (eqb (key k) (j + low)) (f k) 0)
     ∙ sum-cong n

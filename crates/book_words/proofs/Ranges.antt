@@ -2,7 +2,7 @@
 use mathlib.Core.Bool.{true, Bool, _||_, false, cond}
 use mathlib.Core.Logic.{_⊎_, ⊎-elim}
 use mathlib.Core.Path.{_≡_, refl}
-use Prim.Native.Nat.{ℕ, _≤_, _<_, _*_}
+use Prim.Native.Nat.{ℕ, _≤_, _<_, _*_, _-_}
 use native.Mathlib.Nat.{mul-le-mul, eq-zero-or-pos}
 use native.Mathlib.Omega.{arith}
 use lib.Dec.{leb, eqb}
@@ -16,6 +16,10 @@ between-low low high n e = leb-true low n (both (leb low n) (leb n high) e .0)
 
 pub between-high : (low high n : ℕ) → between low high n ≡ true → n ≤ high
 between-high low high n e = leb-true n high (both (leb low n) (leb n high) e .1)
+
+-- the place of a number that is there
+pub place-inside : (count most number : ℕ) → count ≤ most → between 1 count number ≡ true → number - 1 < most
+place-inside count most number few e = omega (arith, between-low 1 count number e, between-high 1 count number e)
 
 -- a number that is not 0
 pub above-zero : (n : ℕ) → eqb n 0 ≡ false → 0 < n

@@ -16,7 +16,7 @@ use Rattle.book_words.specs.Parts.{Limited}
 use Rattle.book_words.specs.Soundness.{entryFine, entrySuits, quotedSuits, elementFine, elementSuits, sharesFine, measured, sharesWait}
 use Rattle.book_words.specs.Totals.{Side, unstruckOf, unstruck, allUnstruck, capped, sharesOf, operation, provision}
 use Rattle.apportion.proofs.Sums.{sum-le}
-use Rattle.book_words.proofs.Booleans.{both, cond-false, and-both, cond-most}
+use Rattle.book_words.proofs.Booleans.{both, cond-false, cond-most}
 use Rattle.book_words.proofs.Capping.{capped-equal}
 
 module _ (ws : List ℕ) where
@@ -84,25 +84,18 @@ module _ (ws : List ℕ) where
       )
 
 -- an entry, and an element, whose fields are known to be in range
-pub entry-suits : (k : Category) (r : Entry) → isGroup (r .group) ≡ true → unsuitedGroup (k .kind) (r .group) ≡ false → r .operation ≤ largest → r .provision ≤ largest → r .struck ≤ 1
+pub entry-suits : (k : Category) (r : Entry) → isGroup (r .group) ≡ true → unsuitedGroup (k .kind) (r .group) ≡ false
+    → r .operation ≤ largest → r .provision ≤ largest → r .struck ≤ 1
     → entrySuits k r ≡ true
 unfolding entrySuits
 entry-suits k r known suited a b struck =
-    and-both (isGroup (r .group) && not (unsuitedGroup (k .kind) (r .group)) && leb (r .operation) largest && leb (r .provision) largest) (leb (r .struck) 1)
-    (and-both (isGroup (r .group) && not (unsuitedGroup (k .kind) (r .group)) && leb (r .operation) largest) (leb (r .provision) largest)
-    (and-both (isGroup (r .group) && not (unsuitedGroup (k .kind) (r .group))) (leb (r .operation) largest)
-    (and-both (isGroup (r .group)) (not (unsuitedGroup (k .kind) (r .group))) known (ap not suited))
-    (le-leb (r .operation) largest a))
-    (le-leb (r .provision) largest b))
-    (le-leb (r .struck) 1 struck)
+    rw (suited, known, le-leb (r .operation) largest a, le-leb (r .provision) largest b, le-leb (r .struck) 1 struck)
 
-pub measures-fine : (kind : ℕ) (r : Element) → isAmount (r .code) (r .amount) ≡ true → isDistance kind (r .distance) ≡ true → r .activity ≡ activityOf kind (r .code) (r .amount) (r .distance)
+pub measures-fine : (kind : ℕ) (r : Element) → isAmount (r .code) (r .amount) ≡ true → isDistance kind (r .distance) ≡ true
+    → r .activity ≡ activityOf kind (r .code) (r .amount) (r .distance)
     → measured kind r ≡ true
 unfolding measured
-measures-fine kind r a d e =
-    and-both (isAmount (r .code) (r .amount) && isDistance kind (r .distance)) (eqb (r .activity) (activityOf kind (r .code) (r .amount) (r .distance)))
-    (and-both (isAmount (r .code) (r .amount)) (isDistance kind (r .distance)) a d)
-    (eq-eqb (r .activity) (activityOf kind (r .code) (r .amount) (r .distance)) e)
+measures-fine kind r a d e = rw (a, d, eq-eqb (r .activity) (activityOf kind (r .code) (r .amount) (r .distance)) e)
 
 pub element-suits : (k : Category) (r : Element) → isChain (r .chain) ≡ true → isCode (r .code) ≡ true → unsuited (k .kind) (r .code) ≡ false
     → isAmount (r .code) (r .amount) ≡ true → isDistance (k .kind) (r .distance) ≡ true → r .activity ≡ activityOf (k .kind) (r .code) (r .amount) (r .distance)
@@ -110,20 +103,22 @@ pub element-suits : (k : Category) (r : Element) → isChain (r .chain) ≡ true
     → elementSuits k r ≡ true
 unfolding elementSuits
 element-suits k r chain code suited a d e unclosed none nil =
-    and-both (isChain (r .chain) && isCode (r .code) && not (unsuited (k .kind) (r .code)) && measured (k .kind) r) (sharesWait k r)
-    (and-both (isChain (r .chain) && isCode (r .code) && not (unsuited (k .kind) (r .code))) (measured (k .kind) r)
-    (and-both (isChain (r .chain) && isCode (r .code)) (not (unsuited (k .kind) (r .code)))
-    (and-both (isChain (r .chain)) (isCode (r .code)) chain code)
-    (ap not suited))
-    (measures-fine (k .kind) r a d e))
-    (rw (eq-eqb (k .closed) 0 unclosed, eq-eqb (r .operation) 0 none, eq-eqb (r .provision) 0 nil))
+    rw (
+      suited,
+      chain,
+      code,
+      measures-fine (k .kind) r a d e,
+      eq-eqb (k .closed) 0 unclosed,
+      eq-eqb (r .operation) 0 none,
+      eq-eqb (r .provision) 0 nil,
+    )
 
-pub quoted-suits : (r : Element) → isChain (r .chain) ≡ true → isAmount 0 (r .amount) ≡ true → isDistance 1 (r .distance) ≡ true → r .code ≡ 0 → r .activity ≡ r .amount * r .distance → quotedSuits r ≡ true
+pub quoted-suits : (r : Element) → isChain (r .chain) ≡ true → isAmount 0 (r .amount) ≡ true → isDistance 1 (r .distance) ≡ true
+    → r .code ≡ 0 → r .activity ≡ r .amount * r .distance
+    → quotedSuits r ≡ true
 unfolding quotedSuits activityOf
 quoted-suits r chain a d code e =
-    and-both (isChain (r .chain) && eqb (r .code) 0) (measured 1 r)
-    (and-both (isChain (r .chain)) (eqb (r .code) 0) chain (eq-eqb (r .code) 0 code))
-    (measures-fine 1 r (ap (λ (n : ℕ). isAmount n (r .amount)) code ∙ a) d (rw code e))
+    rw (chain, eq-eqb (r .code) 0 code, measures-fine 1 r (ap (λ (n : ℕ). isAmount n (r .amount)) code ∙ a) d (rw code e))
 
 -- the rules of an element of this category, one by one
 pub record Suited (k : Category) (r : Element) : Type 0 where

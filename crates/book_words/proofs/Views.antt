@@ -1,16 +1,21 @@
 -- What a write changes in the records of a book, and what it keeps. Assumes nothing.
-use mathlib.Core.List.{List, _∷_, []}
-use mathlib.Core.Path.{_≡_, refl}
-use Prim.Native.Nat.{ℕ, _+_, _*_, _<_, _≤_}
+use mathlib.Core.Bool.{true, false}
+use mathlib.Core.List.{List}
+use mathlib.Core.Path.{_≡_, refl, _∙_}
+use Prim.Native.Nat.{ℕ, _+_, _<_, _≤_}
 use native.Mathlib.Nat.{add-zero}
 use native.Mathlib.Omega.{arith}
-use lib.ListN.{length, set}
+use lib.Dec.{ltb, eqb}
+use lib.ListN.{length, set, length-set}
+use lib.Seq.{sets, length-sets, getD-set-other, getD-set-same}
+use borrow.Author.Tests.{ltb-true, eqb-false}
 use Rattle.apportion.specs.Places.{at}
 use Rattle.book_words.specs.declared.records.Category.{Category}
 use Rattle.book_words.specs.declared.records.Element.{Element}
 use Rattle.book_words.specs.declared.records.Entry.{Entry}
-use Rattle.book_words.specs.Book.{categoryAt, entryAt, elementAt, categories, entries, elements, bookLength, mostCategories, mostEntries, addCategory, addEntry, mostElements, addElement}
-use Rattle.book_words.proofs.Writes.{Avoids, puts-other, puts-length, puts-here}
+use Rattle.book_words.specs.declared.records.Layout.{Layout}
+use Rattle.book_words.specs.Book.{bookLength, categoryList, entryList, elementList, countOf, categories, entries, elements, mostCategories, mostEntries, mostElements, startOf, categoryStart, entryStart, elementStart, struckWord, categoryAt, entryAt, elementAt, categoryWords, entryWords, elementWords, appended, addCategory, addEntry, addElement}
+use Rattle.book_words.proofs.Writes.{Outside, sets-outside, sets-inside}
 
 -- the same entry, struck
 abbrev pub struckEntry : Entry → Entry
@@ -23,34 +28,33 @@ struckEntry r =
       struck = 1;
     }
 
+-- the words of a list's record at place p, each counted from its start
+abbrev pub Words : Layout → List ℕ → ℕ → (ℕ → ℕ) → Type 0
+Words list ws p word = (f : ℕ) → ltb f (list .width) ≡ true → at ws (startOf list p + f) ≡ word f
+
+-- a record is known by its words
+module _ (ws : List ℕ) (p : ℕ) where
+  category-is : (r : Category) → Words categoryList ws p (at (categoryWords r)) → categoryAt ws p ≡ r
+  category-is r word = simp (rw add-zero at (word 0 refl), word)
+
+  entry-is : (r : Entry) → Words entryList ws p (at (entryWords r)) → entryAt ws p ≡ r
+  entry-is r word = simp (rw add-zero at (word 0 refl), word)
+
+  element-is : (r : Element) → Words elementList ws p (at (elementWords r)) → elementAt ws p ≡ r
+  element-is r word = simp (rw add-zero at (word 0 refl), word)
+
+-- a record whose words are the same is the same
+module _ (ws ws′ : List ℕ) (p : ℕ) where
+  pub category-same : Words categoryList ws′ p (λ f. at ws (categoryStart p + f)) → categoryAt ws′ p ≡ categoryAt ws p
+  category-same word = simp (simp add-zero at (word 0 refl), word)
+
+  pub entry-same : Words entryList ws′ p (λ f. at ws (entryStart p + f)) → entryAt ws′ p ≡ entryAt ws p
+  entry-same word = simp (simp add-zero at (word 0 refl), word)
+
+  pub element-same : Words elementList ws′ p (λ f. at ws (elementStart p + f)) → elementAt ws′ p ≡ elementAt ws p
+  element-same word = simp (simp add-zero at (word 0 refl), word)
+
 module _ (ws ws′ : List ℕ) where
-  -- a record whose words are the same is the same
-  pub category-same : (p : ℕ) → at ws′ (4 + 2 * p) ≡ at ws (4 + 2 * p) → at ws′ (4 + 2 * p + 1) ≡ at ws (4 + 2 * p + 1) → categoryAt ws′ p ≡ categoryAt ws p
-  category-same p a b = rw (a, b)
-
-  pub entry-same : (p : ℕ) → ((f : ℕ) → f < 5 → at ws′ (36 + 5 * p + f) ≡ at ws (36 + 5 * p + f)) → entryAt ws′ p ≡ entryAt ws p
-  entry-same p same =
-      rw (
-        rw add-zero at (same 0 (omega arith)),
-        same 1 (omega arith),
-        same 2 (omega arith),
-        same 3 (omega arith),
-        same 4 (omega arith),
-      )
-
-  pub element-same : (p : ℕ) → ((f : ℕ) → f < 8 → at ws′ (356 + 8 * p + f) ≡ at ws (356 + 8 * p + f)) → elementAt ws′ p ≡ elementAt ws p
-  element-same p same =
-      rw (
-        rw add-zero at (same 0 (omega arith)),
-        same 1 (omega arith),
-        same 2 (omega arith),
-        same 3 (omega arith),
-        same 4 (omega arith),
-        same 5 (omega arith),
-        same 6 (omega arith),
-        same 7 (omega arith),
-      )
-
   -- A category is appended.
   pub record CategoryAdded (r : Category) : Type 0 where
     pub same-length : length ws′ ≡ length ws
@@ -103,120 +107,99 @@ module _ (ws ws′ : List ℕ) where
     pub element-kept : (p : ℕ) → (p ≡ elements ws → ⊥) → elementAt ws′ p ≡ elementAt ws p
     pub rest-kept : (k : ℕ) → bookLength ≤ k → at ws′ k ≡ at ws k
 
+-- A record of these words is appended to a list.
+record Appended (ws ws′ : List ℕ) (list : Layout) (words : List ℕ) : Type 0 where
+  same-length : length ws′ ≡ length ws
+  one-more : countOf ws′ list ≡ countOf ws list + 1
+  word-new : (f : ℕ) → f < length words → at ws′ (startOf list (countOf ws list) + f) ≡ at words f
+  word-kept : (k : ℕ) → (k ≡ list .counter → ⊥) × Outside (startOf list (countOf ws list)) (length words) k → at ws′ k ≡ at ws k
+
+appends : (ws : List ℕ) (list : Layout) (words : List ℕ) → list .counter < list .first → startOf list (countOf ws list) + length words ≤ length ws
+    → Appended ws (appended ws list words) list words
+appends ws list words early room =
+    let start = startOf list (countOf ws list) in
+    let put = sets ws start words in
+    let more = countOf ws list + 1 in
+    let long = length-sets ws start words in
+    let other : (k : ℕ) → (k ≡ list .counter → ⊥) → at (set put (list .counter) more) k ≡ at put k = λ k ne. getD-set-other put (list .counter) k more 0 ne in
+    record {
+      same-length = length-set put (list .counter) more ∙ long;
+      one-more = getD-set-same put (list .counter) more 0 (omega arith);
+      word-new = λ f h. other (start + f) (omega arith) ∙ sets-inside ws start words f h room;
+      word-kept = λ k out. other k (out .0) ∙ sets-outside ws start words k (out .1);
+    }
+
 module _ (ws : List ℕ) (long : bookLength ≤ length ws) where
   pub category-added : (r : Category) → categories ws < mostCategories → CategoryAdded ws (addCategory ws r) r
   unfolding addCategory
   category-added r room =
-      let n = categories ws in
-      let a : ℕ × ℕ = (4 + 2 * n, r .kind) in
-      let b : ℕ × ℕ = (4 + 2 * n + 1, r .closed) in
-      let d : ℕ × ℕ = (1, n + 1) in
-      let other : (k : ℕ) → Avoids k (a ∷ b ∷ d ∷ []) → at (addCategory ws r) k ≡ at ws k = puts-other ws (a ∷ b ∷ d ∷ []) in
+      let after = addCategory ws r in
+      let a = appends ws categoryList (categoryWords r) (omega arith) (omega arith) in
       record {
-        same-length = puts-length ws (a ∷ b ∷ d ∷ []);
-        same-mark = other 0 (omega arith);
-        one-more = puts-here ws (a ∷ b ∷ []) d ([]) (omega arith) (omega arith);
-        same-entries = other 2 (omega arith);
-        same-elements = other 3 (omega arith);
-        category-new = rw (
-          puts-here ws ([]) a (b ∷ d ∷ []) (omega arith) (omega arith),
-          puts-here ws (a ∷ []) b (d ∷ []) (omega arith) (omega arith),
-        );
-        category-kept = λ p h. category-same ws (addCategory ws r) p (other (4 + 2 * p) (omega (arith, h))) (other (4 + 2 * p + 1) (omega (arith, h)));
-        entry-kept = λ p. entry-same ws (addCategory ws r) p (λ f i. other (36 + 5 * p + f) (omega arith));
-        element-kept = λ p. element-same ws (addCategory ws r) p (λ f i. other (356 + 8 * p + f) (omega arith));
-        rest-kept = λ k h. other k (omega arith);
+        same-length = a .same-length;
+        same-mark = a .word-kept 0 (omega arith);
+        one-more = a .one-more;
+        same-entries = a .word-kept (entryList .counter) (omega arith);
+        same-elements = a .word-kept (elementList .counter) (omega arith);
+        category-new = category-is after (categories ws) r (λ f t. a .word-new f (ltb-true f (categoryList .width) t));
+        category-kept = λ p ne. category-same ws after p (λ f t. a .word-kept (categoryStart p + f) (omega (arith, ltb-true)));
+        entry-kept = λ p. entry-same ws after p (λ f t. a .word-kept (entryStart p + f) (omega arith));
+        element-kept = λ p. element-same ws after p (λ f t. a .word-kept (elementStart p + f) (omega arith));
+        rest-kept = λ k h. a .word-kept k (omega arith);
       }
 
   pub entry-added : (r : Entry) → entries ws < mostEntries → EntryAdded ws (addEntry ws r) r
   unfolding addEntry
   entry-added r room =
-      let n = entries ws in
-      let a : ℕ × ℕ = (36 + 5 * n, r .category) in
-      let b : ℕ × ℕ = (36 + 5 * n + 1, r .group) in
-      let d : ℕ × ℕ = (36 + 5 * n + 2, r .operation) in
-      let e : ℕ × ℕ = (36 + 5 * n + 3, r .provision) in
-      let f : ℕ × ℕ = (36 + 5 * n + 4, r .struck) in
-      let g : ℕ × ℕ = (2, n + 1) in
-      let other : (k : ℕ) → Avoids k (a ∷ b ∷ d ∷ e ∷ f ∷ g ∷ []) → at (addEntry ws r) k ≡ at ws k = puts-other ws (a ∷ b ∷ d ∷ e ∷ f ∷ g ∷ []) in
+      let after = addEntry ws r in
+      let a = appends ws entryList (entryWords r) (omega arith) (omega arith) in
       record {
-        same-length = puts-length ws (a ∷ b ∷ d ∷ e ∷ f ∷ g ∷ []);
-        same-mark = other 0 (omega arith);
-        same-categories = other 1 (omega arith);
-        one-more = puts-here ws (a ∷ b ∷ d ∷ e ∷ f ∷ []) g ([]) (omega arith) (omega arith);
-        same-elements = other 3 (omega arith);
-        category-kept = λ p h. category-same ws (addEntry ws r) p (other (4 + 2 * p) (omega arith)) (other (4 + 2 * p + 1) (omega arith));
-        entry-new = rw (
-          puts-here ws ([]) a (b ∷ d ∷ e ∷ f ∷ g ∷ []) (omega arith) (omega arith),
-          puts-here ws (a ∷ []) b (d ∷ e ∷ f ∷ g ∷ []) (omega arith) (omega arith),
-          puts-here ws (a ∷ b ∷ []) d (e ∷ f ∷ g ∷ []) (omega arith) (omega arith),
-          puts-here ws (a ∷ b ∷ d ∷ []) e (f ∷ g ∷ []) (omega arith) (omega arith),
-          puts-here ws (a ∷ b ∷ d ∷ e ∷ []) f (g ∷ []) (omega arith) (omega arith),
-        );
-        entry-kept = λ p h. entry-same ws (addEntry ws r) p (λ f i. other (36 + 5 * p + f) (omega (arith, h)));
-        element-kept = λ p. element-same ws (addEntry ws r) p (λ f i. other (356 + 8 * p + f) (omega arith));
-        rest-kept = λ k h. other k (omega arith);
+        same-length = a .same-length;
+        same-mark = a .word-kept 0 (omega arith);
+        same-categories = a .word-kept (categoryList .counter) (omega arith);
+        one-more = a .one-more;
+        same-elements = a .word-kept (elementList .counter) (omega arith);
+        category-kept = λ p h. category-same ws after p (λ f t. a .word-kept (categoryStart p + f) (omega (arith, ltb-true)));
+        entry-new = entry-is after (entries ws) r (λ f t. a .word-new f (ltb-true f (entryList .width) t));
+        entry-kept = λ p ne. entry-same ws after p (λ f t. a .word-kept (entryStart p + f) (omega (arith, ltb-true)));
+        element-kept = λ p. element-same ws after p (λ f t. a .word-kept (elementStart p + f) (omega arith));
+        rest-kept = λ k h. a .word-kept k (omega arith);
       }
 
   pub element-added : (r : Element) → elements ws < mostElements → ElementAdded ws (addElement ws r) r
   unfolding addElement
   element-added r room =
-      let n = elements ws in
-      let a : ℕ × ℕ = (356 + 8 * n, r .category) in
-      let b : ℕ × ℕ = (356 + 8 * n + 1, r .chain) in
-      let d : ℕ × ℕ = (356 + 8 * n + 2, r .code) in
-      let e : ℕ × ℕ = (356 + 8 * n + 3, r .amount) in
-      let f : ℕ × ℕ = (356 + 8 * n + 4, r .distance) in
-      let g : ℕ × ℕ = (356 + 8 * n + 5, r .activity) in
-      let h : ℕ × ℕ = (356 + 8 * n + 6, r .operation) in
-      let i : ℕ × ℕ = (356 + 8 * n + 7, r .provision) in
-      let j : ℕ × ℕ = (3, n + 1) in
-      let other : (k : ℕ) → Avoids k (a ∷ b ∷ d ∷ e ∷ f ∷ g ∷ h ∷ i ∷ j ∷ []) → at (addElement ws r) k ≡ at ws k = puts-other ws (a ∷ b ∷ d ∷ e ∷ f ∷ g ∷ h ∷ i ∷ j ∷ []) in
+      let after = addElement ws r in
+      let a = appends ws elementList (elementWords r) (omega arith) (omega arith) in
       record {
-        same-length = puts-length ws (a ∷ b ∷ d ∷ e ∷ f ∷ g ∷ h ∷ i ∷ j ∷ []);
-        same-mark = other 0 (omega arith);
-        same-categories = other 1 (omega arith);
-        same-entries = other 2 (omega arith);
-        one-more = puts-here ws (a ∷ b ∷ d ∷ e ∷ f ∷ g ∷ h ∷ i ∷ []) j ([]) (omega arith) (omega arith);
-        category-kept = λ p h. category-same ws (addElement ws r) p (other (4 + 2 * p) (omega arith)) (other (4 + 2 * p + 1) (omega arith));
-        entry-kept = λ p h. entry-same ws (addElement ws r) p (λ f i. other (36 + 5 * p + f) (omega arith));
-        element-new = rw (
-          puts-here ws ([]) a (b ∷ d ∷ e ∷ f ∷ g ∷ h ∷ i ∷ j ∷ []) (omega arith) (omega arith),
-          puts-here ws (a ∷ []) b (d ∷ e ∷ f ∷ g ∷ h ∷ i ∷ j ∷ []) (omega arith) (omega arith),
-          puts-here ws (a ∷ b ∷ []) d (e ∷ f ∷ g ∷ h ∷ i ∷ j ∷ []) (omega arith) (omega arith),
-          puts-here ws (a ∷ b ∷ d ∷ []) e (f ∷ g ∷ h ∷ i ∷ j ∷ []) (omega arith) (omega arith),
-          puts-here ws (a ∷ b ∷ d ∷ e ∷ []) f (g ∷ h ∷ i ∷ j ∷ []) (omega arith) (omega arith),
-          puts-here ws (a ∷ b ∷ d ∷ e ∷ f ∷ []) g (h ∷ i ∷ j ∷ []) (omega arith) (omega arith),
-          puts-here ws (a ∷ b ∷ d ∷ e ∷ f ∷ g ∷ []) h (i ∷ j ∷ []) (omega arith) (omega arith),
-          puts-here ws (a ∷ b ∷ d ∷ e ∷ f ∷ g ∷ h ∷ []) i (j ∷ []) (omega arith) (omega arith),
-        );
-        element-kept = λ p h. element-same ws (addElement ws r) p (λ f i. other (356 + 8 * p + f) (omega (arith, h)));
-        rest-kept = λ k h. other k (omega arith);
+        same-length = a .same-length;
+        same-mark = a .word-kept 0 (omega arith);
+        same-categories = a .word-kept (categoryList .counter) (omega arith);
+        same-entries = a .word-kept (entryList .counter) (omega arith);
+        one-more = a .one-more;
+        category-kept = λ p h. category-same ws after p (λ f t. a .word-kept (categoryStart p + f) (omega (arith, ltb-true)));
+        entry-kept = λ p h. entry-same ws after p (λ f t. a .word-kept (entryStart p + f) (omega (arith, ltb-true)));
+        element-new = element-is after (elements ws) r (λ f t. a .word-new f (ltb-true f (elementList .width) t));
+        element-kept = λ p ne. element-same ws after p (λ f t. a .word-kept (elementStart p + f) (omega (arith, ltb-true)));
+        rest-kept = λ k h. a .word-kept k (omega arith);
       }
 
-  pub entry-struck : (place : ℕ) → place < mostEntries → EntryStruck ws (set ws (36 + 5 * place + 4) 1) place
+  pub entry-struck : (place : ℕ) → place < mostEntries → EntryStruck ws (set ws (entryStart place + struckWord) 1) place
   entry-struck place room =
-      let struck : ℕ × ℕ = (36 + 5 * place + 4, 1) in
-      let other : (k : ℕ) → Avoids k (struck ∷ []) → at (set ws (36 + 5 * place + 4) 1) k ≡ at ws k = puts-other ws (struck ∷ []) in
+      let struck = entryStart place + struckWord in
+      let after = set ws struck 1 in
+      let kept : (k : ℕ) → (k ≡ struck → ⊥) → at after k ≡ at ws k = λ k ne. getD-set-other ws struck k 1 0 ne in
+      let word : (f : ℕ) → eqb f struckWord ≡ false → at after (entryStart place + f) ≡ at ws (entryStart place + f) =
+      λ f t. kept (entryStart place + f) (omega (arith, eqb-false)) in
       record {
-        same-length = puts-length ws (struck ∷ []);
-        same-mark = other 0 (omega arith);
-        same-categories = other 1 (omega arith);
-        same-entries = other 2 (omega arith);
-        same-elements = other 3 (omega arith);
-        category-kept = λ p h. category-same ws (set ws (36 + 5 * place + 4) 1) p (other (4 + 2 * p) (omega arith)) (other (4 + 2 * p + 1) (omega arith));
-        entry-struck = rw (
-          other (36 + 5 * place) (omega arith),
-          other (36 + 5 * place + 1) (omega arith),
-          other (36 + 5 * place + 2) (omega arith),
-          other (36 + 5 * place + 3) (omega arith),
-          puts-here ws [] struck [] (omega arith) refl,
-        );
-        entry-kept = λ p h. entry-same ws (set ws (36 + 5 * place + 4) 1) p (λ f i. other (36 + 5 * p + f) (apart p place f h i));
-        element-kept = λ p. element-same ws (set ws (36 + 5 * place + 4) 1) p (λ f i. other (356 + 8 * p + f) (omega arith));
-        rest-kept = λ k h. other k (omega arith);
+        same-length = length-set ws struck 1;
+        same-mark = kept 0 (omega arith);
+        same-categories = kept (categoryList .counter) (omega arith);
+        same-entries = kept (entryList .counter) (omega arith);
+        same-elements = kept (elementList .counter) (omega arith);
+        category-kept = λ p h. category-same ws after p (λ f t. kept (categoryStart p + f) (omega (arith, ltb-true)));
+        entry-struck = simp (simp add-zero at (word 0 refl), word, getD-set-same ws struck 1 0 (omega arith));
+        entry-kept = λ p ne. entry-same ws after p (λ f t. kept (entryStart p + f) (omega (arith, ltb-true)));
+        element-kept = λ p. element-same ws after p (λ f t. kept (elementStart p + f) (omega arith));
+        rest-kept = λ k h. kept k (omega arith);
       }
-    where
-      -- a word of another entry is not this entry's struck word
-      apart : (p place f : ℕ) → (p ≡ place → ⊥) → f < 5 → (36 + 5 * p + f ≡ 36 + 5 * place + 4 → ⊥) × (36 + 5 * p + f ≡ 36 + 5 * p + f)
-      apart p place f ne h = (λ e. ne (omega arith), refl)

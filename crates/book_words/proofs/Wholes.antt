@@ -1,8 +1,8 @@
 -- A sound book as facts about its records and sums. Assumes nothing.
-use mathlib.Core.Bool.{true, _&&_}
+use mathlib.Core.Bool.{Bool, true}
 use mathlib.Core.List.{List}
 use mathlib.Core.Logic.{⊎-elim}
-use mathlib.Core.Path.{_≡_, sym, _∙_}
+use mathlib.Core.Path.{_≡_}
 use Prim.Native.Nat.{ℕ, _+_, _<_, _≤_}
 use native.Mathlib.Nat.{eq-zero-or-pos}
 use native.Mathlib.Omega.{arith}
@@ -11,13 +11,16 @@ use lib.ListN.{length}
 use borrow.Author.Tests.{ne-eqb, eqb-true, eq-eqb, le-leb}
 use Rattle.apportion.specs.Dividing.{largest}
 use Rattle.apportion.specs.Places.{at}
-use Rattle.book_words.specs.Book.{categoryAt, mark, categories, entries, entryAt, elements, elementAt, bookLength, mostCategories, mostEntries, mostElements}
+use Rattle.book_words.specs.Book.{bookLength, mark, categories, mostCategories, categoryAt}
+use Rattle.book_words.specs.Book.{entries, mostEntries, entryAt, elements, mostElements, elementAt}
 use Rattle.book_words.specs.Parts.{CountsWithin, Limited}
-use Rattle.book_words.specs.Soundness.{categoryFine, entryFine, elementFine, sharesFine, sound, categoriesFine, entriesFine, elementsFine, closingsFine, headerFine, sumsFine}
-use Rattle.book_words.specs.Totals.{Side, sharesOf, unstruckOf, activities, mostActivity, operation, provision, emitted}
-use Rattle.book_words.proofs.Booleans.{cond-false, both}
+use Rattle.book_words.specs.Soundness.{categoryFine, entryFine, elementFine, sharesFine}
+use Rattle.book_words.specs.Soundness.{sound, headerFine, categoriesFine, entriesFine, elementsFine, sumsFine, closingsFine}
+use Rattle.book_words.specs.Totals.{Side, sharesOf, unstruckOf, activities, mostActivity, operation, provision, emitted, sumsOf}
+use Rattle.book_words.proofs.Booleans.{both}
+use Rattle.book_words.proofs.Capping.{within-parts}
 use Rattle.book_words.proofs.Every.{every-at, every}
-use Rattle.book_words.proofs.Facts.{sound-parts, header-counted, header-marked, sums-limited, sums-active}
+use Rattle.book_words.proofs.Facts.{sound-parts, header-counted, header-marked, sums-limits, limits-limited}
 
 module _ (ws : List ℕ) where
   -- in the category at this place, where it is closed, the shares sum to the unstruck entries
@@ -34,19 +37,19 @@ module _ (ws : List ℕ) where
     pub active : activities ws ≤ mostActivity
     pub balanced : (p : ℕ) → p < categories ws → Balanced p
 
-  shares-balanced : (p : ℕ) → sharesFine ws p ≡ true → Balanced p
+  -- the shares of a side sum to the unstruck entries, as the test has it
+  abbrev sums-equal : ℕ → Side → Bool
+  sums-equal p side = eqb (sharesOf ws (p + 1) side) (unstruckOf ws (p + 1) side)
+
+  closed-parts : (p : ℕ) → sharesFine ws p ≡ true → (categoryAt ws p .closed ≡ 0 → ⊥)
+      → (sums-equal p operation ≡ true) × (sums-equal p provision ≡ true)
   unfolding sharesFine
-  shares-balanced p e some side =
-      let sums =
-      eqb (sharesOf ws (p + 1) operation) (unstruckOf ws (p + 1) operation)
-      && eqb (sharesOf ws (p + 1) provision) (unstruckOf ws (p + 1) provision) in
-      let closed = sym (cond-false (eqb (categoryAt ws p .closed) 0) true sums (ne-eqb (categoryAt ws p .closed) 0 some)) ∙ e in
-      let parts = both (eqb (sharesOf ws (p + 1) operation) (unstruckOf ws (p + 1) operation)) (eqb (sharesOf ws (p + 1) provision) (unstruckOf ws (p + 1) provision)) closed in
-      of-side side (eqb-true (sharesOf ws (p + 1) operation) (unstruckOf ws (p + 1) operation) (parts .0)) (eqb-true (sharesOf ws (p + 1) provision) (unstruckOf ws (p + 1) provision) (parts .1))
-    where
-      of-side : (side : Side) → sharesOf ws (p + 1) operation ≡ unstruckOf ws (p + 1) operation → sharesOf ws (p + 1) provision ≡ unstruckOf ws (p + 1) provision → sharesOf ws (p + 1) side ≡ unstruckOf ws (p + 1) side
-      of-side operation a b = a
-      of-side provision a b = b
+  closed-parts p e some =
+      both (sums-equal p operation) (sums-equal p provision) (rw (ne-eqb (categoryAt ws p .closed) 0 some) at e)
+
+  shares-balanced : (p : ℕ) → sharesFine ws p ≡ true → Balanced p
+  shares-balanced p e some operation = eqb-true _ _ (closed-parts p e some .0)
+  shares-balanced p e some provision = eqb-true _ _ (closed-parts p e some .1)
 
   balanced-shares : (p : ℕ) → Balanced p → sharesFine ws p ≡ true
   unfolding sharesFine
@@ -72,8 +75,8 @@ module _ (ws : List ℕ) where
         each-category = every-at (categories ws) (λ k. categoryFine (categoryAt ws k)) (p .all-categories);
         each-entry = every-at (entries ws) (λ k. entryFine ws (entryAt ws k)) (p .all-entries);
         each-element = every-at (elements ws) (λ k. elementFine ws (elementAt ws k)) (p .all-elements);
-        limited = sums-limited ws (p .sums);
-        active = sums-active ws (p .sums);
+        limited = limits-limited ws (sums-limits ws (p .sums));
+        active = within-parts (sumsOf ws) (sums-limits ws (p .sums)) .2;
         balanced = λ k h. shares-balanced k (every-at (categories ws) (sharesFine ws) (p .closings) k h);
       }
 

@@ -74,13 +74,21 @@ unfoldable pub activityOf : ℕ → ℕ → ℕ → ℕ → ℕ
 activityOf kind code amount distance =
     cond (isFreight code) (cond (isHub kind) amount (amount * distance)) (amount * code * distance)
 
--- passengers by mass, as they count in P: "head count × 100 × distance (100 kg per passenger, Annex A.4.2)"
-abbrev pub byMass : Element → ℕ
-byMass e = e .amount * 100 * e .distance
+-- "head count × 100 × distance (100 kg per passenger, Annex A.4.2)"
+abbrev pub headsByMass : ℕ → ℕ → ℕ
+headsByMass heads distance = heads * 100 * distance
 
--- an element's activity in ground 10: "passengers as in P"
+-- passengers by mass, as they count in P
+abbrev pub byMass : Element → ℕ
+byMass e = headsByMass (e .amount) (e .distance)
+
+-- passengers by mass, as they count in ground 10: "passengers as in P"
+abbrev pub byStandardMass : Element → ℕ
+byStandardMass e = e .amount * 100 * e .distance
+
+-- an element's activity in ground 10
 unfoldable pub massActivity : Element → ℕ
-massActivity e = cond (isFreight (e .code)) (e .activity) (byMass e)
+massActivity e = cond (isFreight (e .code)) (e .activity) (byStandardMass e)
 
 -- "nearest, halves up": the whole number nearest to n / d
 abbrev pub nearest : ℕ → ℕ → ℕ

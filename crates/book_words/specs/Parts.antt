@@ -1,17 +1,21 @@
 -- What the inner functions of the book require, and what the parts of its test answer. Assumes nothing.
-use mathlib.Core.Bool.{Bool, cond}
-use mathlib.Core.List.{List}
-use Prim.Native.Nat.{ℕ, _≤_, zero, suc, _-_}
+use mathlib.Core.Bool.{Bool, _||_, cond}
+use mathlib.Core.List.{List, []}
+use Prim.Native.Nat.{ℕ, _+_, _-_, _≤_}
+use lib.Dec.{eqb}
 use lib.ListN.{length}
 use Rattle.apportion.specs.Dividing.{largest}
+use Rattle.apportion.specs.Places.{sumBelow}
 use Rattle.book_words.specs.declared.records.Category.{Category}
 use Rattle.book_words.specs.declared.records.Element.{Element}
 use Rattle.book_words.specs.declared.records.Entry.{Entry}
 use Rattle.book_words.specs.declared.totals.Amounts.{Amounts}
-use Rattle.book_words.specs.Book.{bookLength, categories, mostCategories, entries, mostEntries, elements, mostElements, categoryAt, entryAt, elementAt, categoryOf, entryOf}
-use Rattle.book_words.specs.Measures.{between}
-use Rattle.book_words.specs.Soundness.{categoryFine, entryFine, elementFine, sharesFine}
-use Rattle.book_words.specs.Totals.{Side, emitted, operation, provision}
+use Rattle.book_words.specs.declared.totals.Sums.{Sums}
+use Rattle.book_words.specs.Book.{bookLength, categories, mostCategories, categoryAt, categoryOf}
+use Rattle.book_words.specs.Book.{entries, mostEntries, entryAt, entryOf, elements, mostElements, elementAt}
+use Rattle.book_words.specs.Measures.{between, massActivity}
+use Rattle.book_words.specs.Soundness.{allBelow, headerFine, categoryFine, entryFine, elementFine, sumsFine, sharesFine}
+use Rattle.book_words.specs.Totals.{Side, operation, provision, quotedShare, unstruck, emitted}
 
 -- the book is there, and its counts are within their limits
 pub record CountsWithin (ws : List ℕ) : Type 0 where
@@ -24,18 +28,23 @@ pub record CountsWithin (ws : List ℕ) : Type 0 where
 abbrev pub Limited : List ℕ → Type 0
 Limited ws = (side : Side) → emitted ws side ≤ largest
 
--- the lists that the test looks through, and their records: 0 categories, 1 entries, 2 elements, 3 closings
+-- the lists that the test looks through, in the order in which `sound` names them: 0 the header, 1 categories, 2 entries,
+-- 3 elements, 4 the sums, 5 closings. The header and the sums are one record each
 abbrev pub countIn : List ℕ → ℕ → ℕ
-countIn ws zero = categories ws
-countIn ws (suc zero) = entries ws
-countIn ws (suc (suc zero)) = elements ws
-countIn ws (suc (suc (suc n))) = categories ws
+countIn ws list =
+    cond (eqb list 1 || eqb list 5) (categories ws) (cond (eqb list 2) (entries ws) (cond (eqb list 3) (elements ws) 1))
 
 abbrev pub recordFine : List ℕ → ℕ → ℕ → Bool
-recordFine ws zero place = categoryFine (categoryAt ws place)
-recordFine ws (suc zero) place = entryFine ws (entryAt ws place)
-recordFine ws (suc (suc zero)) place = elementFine ws (elementAt ws place)
-recordFine ws (suc (suc (suc n))) place = sharesFine ws place
+recordFine ws list place =
+    cond (eqb list 0) (headerFine ws)
+    (cond (eqb list 1) (categoryFine (categoryAt ws place))
+    (cond (eqb list 2) (entryFine ws (entryAt ws place))
+    (cond (eqb list 3) (elementFine ws (elementAt ws place))
+    (cond (eqb list 4) (sumsFine ws) (sharesFine ws place)))))
+
+-- every record of a list keeps its rules
+unfoldable pub listFine : List ℕ → ℕ → Bool
+listFine ws list = allBelow (countIn ws list) (recordFine ws list)
 
 -- an amount of this side, and two amounts by their sides
 abbrev pub sideOf : Side → Amounts → ℕ
@@ -45,28 +54,41 @@ sideOf provision a = a .provision
 abbrev pub bySides : (Side → ℕ) → Amounts
 bySides amount = record { operation = amount operation; provision = amount provision }
 
--- the record of this number, or zeros where there is none
+-- unstruck entries plus quoted shares, of the entries below one place and the elements below another
+abbrev pub emittedBelow : List ℕ → ℕ → ℕ → Side → ℕ
+emittedBelow ws entry element side =
+    sumBelow entry (λ p. unstruck side (entryAt ws p))
+    + sumBelow element (λ p. quotedShare side (elementAt ws p))
+
+-- ground 10's sums over these
+abbrev pub sumsBelow : List ℕ → ℕ → ℕ → Sums
+sumsBelow ws entry element =
+    record {
+      operation = emittedBelow ws entry element operation;
+      provision = emittedBelow ws entry element provision;
+      activity = sumBelow element (λ p. massActivity (elementAt ws p));
+    }
+
+-- the record of this number, or that of no words, zeros, where there is none
 abbrev pub numberedCategory : List ℕ → ℕ → Category
-numberedCategory ws number =
-    cond (between 1 (categories ws) number) (categoryOf ws number) (record { kind = 0; closed = 0 })
+numberedCategory ws number = cond (between 1 (categories ws) number) (categoryOf ws number) (categoryAt [] 0)
 
 abbrev pub numberedEntry : List ℕ → ℕ → Entry
-numberedEntry ws number =
-    cond (between 1 (entries ws) number)
-    (entryOf ws number)
-    (record { category = 0; group = 0; operation = 0; provision = 0; struck = 0 })
+numberedEntry ws number = cond (between 1 (entries ws) number) (entryOf ws number) (entryAt [] 0)
 
 abbrev pub numberedElement : List ℕ → ℕ → Element
-numberedElement ws number =
-    cond (between 1 (elements ws) number)
-    (elementAt ws (number - 1))
-    (record {
-      category = 0;
-      chain = 0;
-      code = 0;
-      amount = 0;
-      distance = 0;
-      activity = 0;
-      operation = 0;
-      provision = 0;
-    })
+numberedElement ws number = cond (between 1 (elements ws) number) (elementAt ws (number - 1)) (elementAt [] 0)
+
+-- the same element with these shares
+abbrev pub withShares : Element → ℕ → ℕ → Element
+withShares r byOperation byProvision =
+    record {
+      category = r .category;
+      chain = r .chain;
+      code = r .code;
+      amount = r .amount;
+      distance = r .distance;
+      activity = r .activity;
+      operation = byOperation;
+      provision = byProvision;
+    }

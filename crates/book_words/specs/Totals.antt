@@ -1,8 +1,8 @@
 -- The sums of ground 10 and of soundness. Assumes nothing.
-use mathlib.Core.Bool.{cond, Bool, _||_, _&&_}
+use mathlib.Core.Bool.{cond, Bool, not, _&&_}
 use mathlib.Core.List.{List}
 use Prim.Native.Nat.{ℕ, _+_, min, suc}
-use lib.Dec.{eqb, leb, ltb}
+use lib.Dec.{eqb, leb}
 use Rattle.apportion.specs.Dividing.{largest}
 use Rattle.apportion.specs.Places.{sumBelow}
 use Rattle.book_words.specs.declared.records.Element.{Element}
@@ -54,15 +54,6 @@ activities ws = sumBelow (elements ws) (λ p. massActivity (elementAt ws p))
 abbrev pub mostActivity : ℕ
 mostActivity = 100_000_000_000_000_000
 
--- ground 10: these amounts "would pass 10^18 µg in operation or provision"
-abbrev pub passesAmounts : List ℕ → ℕ → ℕ → Bool
-passesAmounts ws byOperation byProvision =
-    ltb largest (emitted ws operation + byOperation) || ltb largest (emitted ws provision + byProvision)
-
--- ground 10: with this element more, "activity over all elements .. would pass 10^17"
-abbrev pub passesActivity : List ℕ → Element → Bool
-passesActivity ws e = ltb mostActivity (activities ws + massActivity e)
-
 -- A sum of any words may pass 64 bits. The code's sums stop at 10^18 + 1, which decides every ground as the sum does.
 abbrev pub capped : ℕ → ℕ
 capped n = min n (suc largest)
@@ -81,7 +72,11 @@ capSums sums =
       activity = capped (sums .activity);
     }
 
--- the same sums with one entry more, and with one element more, of which quoted shares are added
+-- ground 10's "quoted shares": what an element adds to them
+abbrev pub quotedShare : Side → Element → ℕ
+quotedShare side e = cond (eqb (e .category) 0) (shareOf side e) 0
+
+-- the same sums with one entry more, and with one element more
 abbrev pub withEntry : Sums → Entry → Sums
 withEntry sums e =
     record {
@@ -93,12 +88,17 @@ withEntry sums e =
 abbrev pub withElement : Sums → Element → Sums
 withElement sums e =
     record {
-      operation = sums .operation + cond (eqb (e .category) 0) (e .operation) 0;
-      provision = sums .provision + cond (eqb (e .category) 0) (e .provision) 0;
+      operation = sums .operation + quotedShare operation e;
+      provision = sums .provision + quotedShare provision e;
       activity = sums .activity + massActivity e;
     }
 
--- no sum passes its limit of ground 10. Of the sums with a record more this is that `passesAmounts` and `passesActivity` do not hold
+-- no sum passes its limit of ground 10
 abbrev pub withinLimits : Sums → Bool
 withinLimits sums =
     leb (sums .operation) largest && leb (sums .provision) largest && leb (sums .activity) mostActivity
+
+-- ground 10 of a call: "Unstruck entries plus quoted shares would pass 10^18 µg in operation or provision, activity over all
+-- elements .. would pass 10^17". These are the sums with the record that the call would append
+abbrev pub passesLimits : Sums → Bool
+passesLimits sums = not (withinLimits sums)

@@ -17,18 +17,44 @@ pub const ENTRIES: usize = 2;
 
 pub const ELEMENTS: usize = 3;
 
-// Where the lists begin, and the words of a record.
-pub const FIRST_CATEGORY: usize = 4;
+// Where a list is.
+pub struct Layout {
+    // The word that counts its records.
+    pub counter: usize,
+    // Its first word.
+    pub first: usize,
+    // The words of a record.
+    pub width: usize,
+}
 
-pub const CATEGORY_WORDS: usize = 2;
+pub const CATEGORY_LIST: Layout = Layout {
+    counter: CATEGORIES,
+    first: 4,
+    width: 2,
+};
 
-pub const FIRST_ENTRY: usize = 36;
+pub const ENTRY_LIST: Layout = Layout {
+    counter: ENTRIES,
+    first: 36,
+    width: 5,
+};
 
-pub const ENTRY_WORDS: usize = 5;
+pub const ELEMENT_LIST: Layout = Layout {
+    counter: ELEMENTS,
+    first: 356,
+    width: 8,
+};
 
-pub const FIRST_ELEMENT: usize = 356;
+// The words that are read or written by themselves, each counted from the start of its record.
+pub const CLOSED_WORD: usize = 1;
 
-pub const ELEMENT_WORDS: usize = 8;
+pub const STRUCK_WORD: usize = 4;
+
+pub const CHAIN_WORD: usize = 1;
+
+pub const OPERATION_SHARE_WORD: usize = 6;
+
+pub const PROVISION_SHARE_WORD: usize = 7;
 
 // The most records of each list.
 pub const MOST_CATEGORIES: u64 = 16;
@@ -68,10 +94,10 @@ pub fn read_category(book: &[u64], place: usize) -> Category
     requires { ⌜ (bookLength ≤ length (now book)) × (place < mostCategories) ⌝ }
     ensures { λ r. ⌜ r ≡ categoryAt (now (book .entry)) place ⌝ }
 {
-    let at = FIRST_CATEGORY + CATEGORY_WORDS * place;
+    let at = CATEGORY_LIST.first + CATEGORY_LIST.width * place;
     Category {
         kind: book[at],
-        closed: book[at + 1],
+        closed: book[at + CLOSED_WORD],
     }
 }
 
@@ -79,13 +105,13 @@ pub fn read_entry(book: &[u64], place: usize) -> Entry
     requires { ⌜ (bookLength ≤ length (now book)) × (place < mostEntries) ⌝ }
     ensures { λ r. ⌜ r ≡ entryAt (now (book .entry)) place ⌝ }
 {
-    let at = FIRST_ENTRY + ENTRY_WORDS * place;
+    let at = ENTRY_LIST.first + ENTRY_LIST.width * place;
     Entry {
         category: book[at],
         group: book[at + 1],
         operation: book[at + 2],
         provision: book[at + 3],
-        struck: book[at + 4],
+        struck: book[at + STRUCK_WORD],
     }
 }
 
@@ -93,15 +119,15 @@ pub fn read_element(book: &[u64], place: usize) -> Element
     requires { ⌜ (bookLength ≤ length (now book)) × (place < mostElements) ⌝ }
     ensures { λ r. ⌜ r ≡ elementAt (now (book .entry)) place ⌝ }
 {
-    let at = FIRST_ELEMENT + ELEMENT_WORDS * place;
+    let at = ELEMENT_LIST.first + ELEMENT_LIST.width * place;
     Element {
         category: book[at],
-        chain: book[at + 1],
+        chain: book[at + CHAIN_WORD],
         code: book[at + 2],
         amount: book[at + 3],
         distance: book[at + 4],
         activity: book[at + 5],
-        operation: book[at + 6],
-        provision: book[at + 7],
+        operation: book[at + OPERATION_SHARE_WORD],
+        provision: book[at + PROVISION_SHARE_WORD],
     }
 }

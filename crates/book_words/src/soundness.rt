@@ -5,8 +5,9 @@ ghost use mathlib.Core.Path.{_≡_};
 ghost use Prim.Native.Nat.{_<_};
 ghost use Rattle.book_words.specs.Book.{mostEntries, entryAt, mostElements, elementAt, mostCategories};
 ghost use Rattle.book_words.specs.Measures.{isCode};
-ghost use Rattle.book_words.specs.Parts.{numberedCategory, numberedEntry, numberedElement, CountsWithin, Limited, countIn, recordFine};
-ghost use Rattle.book_words.specs.Soundness.{sound, headerFine, sumsFine, allBelow, categoryFine, entryFine, entrySuits, elementFine, quotedSuits, elementSuits, measured as measuredFor, sharesWait, sharesFine};
+ghost use Rattle.book_words.specs.Parts.{numberedCategory, numberedEntry, numberedElement, CountsWithin, Limited, countIn, recordFine, listFine};
+ghost use Rattle.book_words.specs.Soundness.{allBelow, sound, headerFine, categoryFine, entryFine, entrySuits, sumsFine, sharesFine};
+ghost use Rattle.book_words.specs.Soundness.{elementFine, quotedSuits, elementSuits, measured as measuredFor, sharesWait};
 use crate::measures;
 use crate::records;
 use crate::records::Category;
@@ -14,17 +15,25 @@ use crate::records::Element;
 use crate::records::Entry;
 use crate::totals;
 
-// The book is sound.
+// The book is sound. Its header and its sums are tested as lists of one record each.
 pub fn is_sound(book: &[u64]) -> bool
     ensures { λ r. ⌜ r ≡ sound (now (book .entry)) ⌝ }
 {
-    if !header_fine(book) {
-        return false;
+    let mut good = true;
+    let mut list = 0;
+    'lists: while list < 6 {
+        let count = count_in(book, list);
+        let mut place = 0;
+        while place < count {
+            if !record_fine(book, list, place) {
+                good = false;
+                break 'lists;
+            }
+            place += 1;
+        }
+        list += 1;
     }
-    if !sums_fine(book) {
-        return false;
-    }
-    records_fine(book)
+    good
 }
 
 // The category of this number, or zeros where there is none.
@@ -96,60 +105,34 @@ fn sums_fine(book: &[u64]) -> bool
     totals::are_within(totals::capped_sums(book))
 }
 
-// Every record of every list keeps the rules.
-fn records_fine(book: &[u64]) -> bool
-    requires { ⌜ CountsWithin (now book) ⌝ }
-    requires { ⌜ Limited (now book) ⌝ }
-    ensures { λ r. ⌜ r ≡ allBelow 4 (λ t. allBelow (countIn (now (book .entry)) t) (recordFine (now (book .entry)) t)) ⌝ }
-{
-    let mut good = true;
-    let mut list = 0;
-    'lists: while list < 4 {
-        let count = count_in(book, list);
-        let mut place = 0;
-        while place < count {
-            if !record_fine(book, list, place) {
-                good = false;
-                break 'lists;
-            }
-            place += 1;
-        }
-        list += 1;
-    }
-    good
-}
-
-// How many records a list has: 0 categories, 1 entries, 2 elements, 3 closings.
+// How many records a list has: 0 header, 1 categories, 2 entries, 3 elements, 4 sums, 5 closings.
 fn count_in(book: &[u64], list: u64) -> usize
-    requires { ⌜ CountsWithin (now book) ⌝ }
+    requires { ⌜ allBelow list (listFine (now book)) ≡ true ⌝ }
     ensures { λ r. ⌜ r ≡ countIn (now (book .entry)) list ⌝ }
 {
-    if list == 1 {
-        return book[records::ENTRIES] as usize;
+    match list {
+        1 | 5 => book[records::CATEGORIES] as usize,
+        2 => book[records::ENTRIES] as usize,
+        3 => book[records::ELEMENTS] as usize,
+        _ => 1,
     }
-    if list == 2 {
-        return book[records::ELEMENTS] as usize;
-    }
-    book[records::CATEGORIES] as usize
 }
 
-// The record at this place of a list keeps its rules.
+// The record at this place of a list keeps its rules, where those of the lists before do.
 fn record_fine(book: &[u64], list: u64, place: usize) -> bool
-    requires { ⌜ CountsWithin (now book) ⌝ }
-    requires { ⌜ Limited (now book) ⌝ }
+    requires { ⌜ allBelow list (listFine (now book)) ≡ true ⌝ }
+    requires { ⌜ list < 6 ⌝ }
     requires { ⌜ place < countIn (now book) list ⌝ }
     ensures { λ r. ⌜ r ≡ recordFine (now (book .entry)) list place ⌝ }
 {
-    if list == 0 {
-        return category_fine(records::read_category(book, place));
+    match list {
+        0 => header_fine(book),
+        1 => category_fine(records::read_category(book, place)),
+        2 => entry_fine(book, place),
+        3 => element_fine(book, place),
+        4 => sums_fine(book),
+        _ => shares_fine(book, place),
     }
-    if list == 1 {
-        return entry_fine(book, place);
-    }
-    if list == 2 {
-        return element_fine(book, place);
-    }
-    shares_fine(book, place)
 }
 
 fn category_fine(r: Category) -> bool

@@ -3,10 +3,12 @@ ghost use mathlib.Core.Bool.{cond, true};
 ghost use mathlib.Core.Path.{_≡_};
 ghost use Prim.Native.Nat.{_+_, _*_};
 ghost use lib.Dec.{eqb};
+ghost use Rattle.book_words.specs.Book.{entries};
 ghost use Rattle.book_words.specs.Measures.{massActivity};
-ghost use Rattle.book_words.specs.Parts.{bySides, sideOf, CountsWithin};
+ghost use Rattle.book_words.specs.Parts.{bySides, sideOf, sumsBelow, CountsWithin};
 ghost use Rattle.book_words.specs.Soundness.{sound};
-ghost use Rattle.book_words.specs.Totals.{capped, unstruck as unstruckBy, allUnstruck, unstruckOf, shareOf, sharesOf, emitted as emittedBy, activities as activitiesIn, sumsOf, capSums, withEntry, withElement, withinLimits};
+ghost use Rattle.book_words.specs.Totals.{capped, unstruck as unstruckBy, unstruckOf, shareOf, sharesOf};
+ghost use Rattle.book_words.specs.Totals.{sumsOf, capSums, withEntry, withElement, withinLimits};
 use crate::records;
 use crate::records::Element;
 use crate::records::Entry;
@@ -66,15 +68,12 @@ fn add_sides(a: Amounts, b: Amounts) -> Amounts
     }
 }
 
-// What an entry adds: its amounts, or nothing where it is struck.
-fn unstruck(e: Entry) -> Amounts
-    ensures { λ r. ⌜ r ≡ bySides (λ s. unstruckBy s e) ⌝ }
+// Amounts where a test holds, and nothing elsewhere.
+fn amounts_where(test: bool, amounts: Amounts) -> Amounts
+    ensures { λ r. ⌜ r ≡ bySides (λ s. cond test (sideOf s amounts) 0) ⌝ }
 {
-    if e.struck == 0 {
-        return Amounts {
-            operation: e.operation,
-            provision: e.provision,
-        };
+    if test {
+        return amounts;
     }
     Amounts {
         operation: 0,
@@ -82,35 +81,22 @@ fn unstruck(e: Entry) -> Amounts
     }
 }
 
-// The unstruck entries.
-fn all_unstruck(book: &[u64]) -> Amounts
-    requires { ⌜ CountsWithin (now book) ⌝ }
-    ensures { λ r. ⌜ r ≡ bySides (λ s. capped (allUnstruck (now (book .entry)) s)) ⌝ }
+// What an entry adds: its amounts, or nothing where it is struck.
+fn unstruck(e: Entry) -> Amounts
+    ensures { λ r. ⌜ r ≡ bySides (λ s. unstruckBy s e) ⌝ }
 {
-    let count = book[records::ENTRIES] as usize;
-    let mut sum = Amounts {
-        operation: 0,
-        provision: 0,
+    let amounts = Amounts {
+        operation: e.operation,
+        provision: e.provision,
     };
-    let mut place = 0;
-    while place < count {
-        sum = add_sides(sum, unstruck(records::read_entry(book, place)));
-        place += 1;
-    }
-    sum
+    amounts_where(e.struck == 0, amounts)
 }
 
 // What an entry adds to this category.
 fn unstruck_in(category: u64, e: Entry) -> Amounts
     ensures { λ r. ⌜ r ≡ bySides (λ s. cond (eqb (e .category) category) (unstruckBy s e) 0) ⌝ }
 {
-    if e.category == category {
-        return unstruck(e);
-    }
-    Amounts {
-        operation: 0,
-        provision: 0,
-    }
+    amounts_where(e.category == category, unstruck(e))
 }
 
 // The unstruck entries of a category.
@@ -135,19 +121,14 @@ pub fn unstruck_of(book: &[u64], category: u64) -> Amounts
 fn share_in(category: u64, e: Element) -> Amounts
     ensures { λ r. ⌜ r ≡ bySides (λ s. cond (eqb (e .category) category) (shareOf s e) 0) ⌝ }
 {
-    if e.category == category {
-        return Amounts {
-            operation: e.operation,
-            provision: e.provision,
-        };
-    }
-    Amounts {
-        operation: 0,
-        provision: 0,
-    }
+    let amounts = Amounts {
+        operation: e.operation,
+        provision: e.provision,
+    };
+    amounts_where(e.category == category, amounts)
 }
 
-// The shares in a category, or the quoted shares for category 0.
+// The shares in a category.
 pub fn shares_of(book: &[u64], category: u64) -> Amounts
     requires { ⌜ CountsWithin (now book) ⌝ }
     ensures { λ r. ⌜ r ≡ bySides (λ s. capped (sharesOf (now (book .entry)) category s)) ⌝ }
@@ -165,14 +146,6 @@ pub fn shares_of(book: &[u64], category: u64) -> Amounts
     sum
 }
 
-// Unstruck entries plus quoted shares.
-fn emitted(book: &[u64]) -> Amounts
-    requires { ⌜ CountsWithin (now book) ⌝ }
-    ensures { λ r. ⌜ r ≡ bySides (λ s. capped (emittedBy (now (book .entry)) s)) ⌝ }
-{
-    add_sides(all_unstruck(book), shares_of(book, 0))
-}
-
 // An element's activity, passengers as in P.
 fn mass_activity(e: Element) -> u64
     ensures { λ r. ⌜ r ≡ capped (massActivity e) ⌝ }
@@ -183,32 +156,38 @@ fn mass_activity(e: Element) -> u64
     multiply(multiply(e.amount, 100), e.distance)
 }
 
-// The activity over all elements.
-fn activities(book: &[u64]) -> u64
+// The sums over the entries alone, each capped.
+fn entry_sums(book: &[u64]) -> Sums
     requires { ⌜ CountsWithin (now book) ⌝ }
-    ensures { λ r. ⌜ r ≡ capped (activitiesIn (now (book .entry))) ⌝ }
+    ensures { λ r. ⌜ r ≡ capSums (sumsBelow (now (book .entry)) (entries (now (book .entry))) 0) ⌝ }
 {
-    let count = book[records::ELEMENTS] as usize;
-    let mut sum = 0;
+    let count = book[records::ENTRIES] as usize;
+    let mut sums = Sums {
+        operation: 0,
+        provision: 0,
+        activity: 0,
+    };
     let mut place = 0;
     while place < count {
-        sum = add(sum, mass_activity(records::read_element(book, place)));
+        sums = with_entry(sums, records::read_entry(book, place));
         place += 1;
     }
-    sum
+    sums
 }
 
-// The sums over a book, each capped.
+// The sums over a book, each capped: those of its entries, with each element added.
 pub fn capped_sums(book: &[u64]) -> Sums
     requires { ⌜ CountsWithin (now book) ⌝ }
     ensures { λ r. ⌜ r ≡ capSums (sumsOf (now (book .entry))) ⌝ }
 {
-    let amounts = emitted(book);
-    Sums {
-        operation: amounts.operation,
-        provision: amounts.provision,
-        activity: activities(book),
+    let count = book[records::ELEMENTS] as usize;
+    let mut sums = entry_sums(book);
+    let mut place = 0;
+    while place < count {
+        sums = with_element(sums, records::read_element(book, place));
+        place += 1;
     }
+    sums
 }
 
 // The sums over a book that is known to be sound.

@@ -3,7 +3,7 @@ use mathlib.Core.Bool.{Bool, true, false, cond, not, _&&_, true≢false}
 use mathlib.Core.List.{List}
 use mathlib.Core.Option.{some}
 use mathlib.Core.Path.{_≡_, refl, sym, ap, _∙_}
-use Prim.Native.Nat.{ℕ, _+_, _-_, _*_, _≤_, _<_}
+use Prim.Native.Nat.{ℕ, _+_, _-_, _≤_, _<_}
 use native.Mathlib.Omega.{arith}
 use lib.Dec.{eqb}
 use borrow.Author.Tests.{eqb-true, eqb-false, ne-eqb}
@@ -21,7 +21,8 @@ use Rattle.book_shares.specs.Sums.{among, pooled, pool, activityAmong, passenge
 use Rattle.book.specs.Statements.{waits}
 use Rattle.apportion.proofs.Sums.{sum-cong}
 use Rattle.book_words.proofs.Handed.{entry-category, category-inside}
-use Rattle.conservation.specs.Conserved.{sumNumbered, chainOf, waitsIn, unstruckIn, entryEmissions, elementEmissions, amongIn, poolIn, activityIn, massIn, exactIn}
+use Rattle.conservation.specs.Conserved.{sumNumbered, chainOf, waitsIn, unstruckIn, entryEmissions, elementEmissions}
+use Rattle.conservation.specs.Conserved.{amongIn, poolIn, activityIn, massIn, byMassIn, exactIn}
 use Rattle.conservation.specs.Tally.{TallyEntry, TallyElement, Enrolment, Quotation, enrolled, quoted, numbered}
 use Rattle.conservation.proofs.Listing.{sum-listing, numbered-some}
 use Rattle.conservation.proofs.Reading.{readEntry, enrolmentOf, quotationOf, readElement, tallyOf, closed-read}
@@ -43,7 +44,8 @@ pub read-enrolled : (r : Element) (e : Enrolment) → readElement r ≡ enrolled
 unfolding isQuote enrolmentIn
 read-enrolled r e is = go (eqb (r .category) 0) refl is
   where
-    go : (t : Bool) → eqb (r .category) 0 ≡ t → cond t (quoted (quotationOf r)) (enrolled (enrolmentOf r)) ≡ enrolled e → (r .category ≡ 0 → ⊥) × (enrolmentOf r ≡ e)
+    go : (t : Bool) → eqb (r .category) 0 ≡ t → cond t (quoted (quotationOf r)) (enrolled (enrolmentOf r)) ≡ enrolled e
+        → (r .category ≡ 0 → ⊥) × (enrolmentOf r ≡ e)
     go true h z = absurd (true≢false (ap isQuote z))
     go false h z = (eqb-false (r .category) 0 h, ap (enrolmentIn e) z)
 
@@ -64,16 +66,15 @@ chain-read r = go (eqb (r .category) 0)
     go false = refl
 
 unstruck-read : (side : Side) (r : Entry) → unstruckIn side (readEntry r) ≡ unstruck side r
-unstruck-read operation r = go (eqb (r .struck) 0)
+unstruck-read side r = go side
   where
-    go : (t : Bool) → cond (not t) 0 (r .operation) ≡ cond t (r .operation) 0
-    go true = refl
-    go false = refl
-unstruck-read provision r = go (eqb (r .struck) 0)
-  where
-    go : (t : Bool) → cond (not t) 0 (r .provision) ≡ cond t (r .provision) 0
-    go true = refl
-    go false = refl
+    other-way : (t : Bool) (n : ℕ) → cond (not t) 0 n ≡ cond t n 0
+    other-way true n = refl
+    other-way false n = refl
+
+    go : (s : Side) → unstruckIn s (readEntry r) ≡ unstruck s r
+    go operation = other-way (eqb (r .struck) 0) (r .operation)
+    go provision = other-way (eqb (r .struck) 0) (r .provision)
 
 element-emissions-read : (side : Side) (r : Element) → elementEmissions side (readElement r) ≡ cond (eqb (r .category) 0) (shareOf side r) 0
 element-emissions-read side r = go side (eqb (r .category) 0)
@@ -95,16 +96,24 @@ among-read category enrols takers f g same r = go (eqb (r .category) 0) refl
     go false h = rw (same r)
 
 module _ (ws : List ℕ) where
-  pub elements-sum : (h : ℕ → TallyElement → ℕ) → sumNumbered (tallyOf ws .elements) h ≡ sumBelow (elements ws) (λ p. h (p + 1) (readElement (elementAt ws p)))
+  -- a sum over the tally is that over the book, where they are the same one by one
+  pub elements-sum : (h : ℕ → TallyElement → ℕ) (f : ℕ → ℕ) → ((p : ℕ) → p < elements ws → h (p + 1) (readElement (elementAt ws p)) ≡ f p)
+      → sumNumbered (tallyOf ws .elements) h ≡ sumBelow (elements ws) f
   unfolding tallyOf
-  elements-sum h = sum-listing (elements ws) (λ p. readElement (elementAt ws p)) h
+  elements-sum h f same =
+      let read : ℕ → TallyElement = λ p. readElement (elementAt ws p) in
+      sum-listing (elements ws) read h ∙ sum-cong (elements ws) (λ p. h (p + 1) (read p)) f same
 
-  entries-sum : (h : ℕ → TallyEntry → ℕ) → sumNumbered (tallyOf ws .entries) h ≡ sumBelow (entries ws) (λ p. h (p + 1) (readEntry (entryAt ws p)))
+  entries-sum : (h : ℕ → TallyEntry → ℕ) (f : ℕ → ℕ) → ((p : ℕ) → p < entries ws → h (p + 1) (readEntry (entryAt ws p)) ≡ f p)
+      → sumNumbered (tallyOf ws .entries) h ≡ sumBelow (entries ws) f
   unfolding tallyOf
-  entries-sum h = sum-listing (entries ws) (λ p. readEntry (entryAt ws p)) h
+  entries-sum h f same =
+      let read : ℕ → TallyEntry = λ p. readEntry (entryAt ws p) in
+      sum-listing (entries ws) read h ∙ sum-cong (entries ws) (λ p. h (p + 1) (read p)) f same
 
   -- the element of a number that is there
-  pub element-told : (k : ℕ) (e : TallyElement) → numbered (tallyOf ws .elements) k ≡ some e → (1 ≤ k) × (k ≤ elements ws) × (readElement (elementAt ws (k - 1)) ≡ e)
+  pub element-told : (k : ℕ) (e : TallyElement) → numbered (tallyOf ws .elements) k ≡ some e
+      → (1 ≤ k) × (k ≤ elements ws) × (readElement (elementAt ws (k - 1)) ≡ e)
   unfolding tallyOf
   element-told k e is = numbered-some (elements ws) (λ p. readElement (elementAt ws p)) k e is
 
@@ -113,8 +122,6 @@ module _ (ws : List ℕ) where
   unfolding poolIn pool
   pool-read category group side =
       entries-sum (λ k e. cond (eqb (e .category) category) (cond (eqb (e .group) group) (unstruckIn side e) 0) 0)
-      ∙ sum-cong (entries ws)
-      (λ p. cond (eqb (entryAt ws p .category) category) (cond (eqb (entryAt ws p .group) group) (unstruckIn side (readEntry (entryAt ws p))) 0) 0)
       (λ p. pooled category group side (entryAt ws p))
       (λ p h. ap (λ (n : ℕ). cond (eqb (entryAt ws p .category) category) (cond (eqb (entryAt ws p .group) group) n 0) 0) (unstruck-read side (entryAt ws p)))
 
@@ -122,20 +129,14 @@ module _ (ws : List ℕ) where
     activity-read : (takers : Takers) → activityIn (tallyOf ws) category takers ≡ activityAmong ws category takers
     unfolding activityIn activityAmong
     activity-read takers =
-        elements-sum (λ k e. amongIn category takers (λ x. x .activity) e)
-        ∙ sum-cong (elements ws)
-        (λ p. amongIn category takers (λ x. x .activity) (readElement (elementAt ws p)))
-        (λ p. among category takers (λ e. e .activity) (elementAt ws p))
+        elements-sum (λ k e. amongIn category takers (λ x. x .activity) e) (λ p. among category takers (λ e. e .activity) (elementAt ws p))
         (λ p h. among-read category enrols takers (λ x. x .activity) (λ e. e .activity) (λ r. refl) (elementAt ws p))
 
     mass-read : massIn (tallyOf ws) category ≡ passengersByMass ws category
     unfolding massIn passengersByMass
     mass-read =
-        elements-sum (λ k e. amongIn category Passengers (λ x. x .amount * 100 * x .distance) e)
-        ∙ sum-cong (elements ws)
-        (λ p. amongIn category Passengers (λ x. x .amount * 100 * x .distance) (readElement (elementAt ws p)))
-        (λ p. among category Passengers byMass (elementAt ws p))
-        (λ p h. among-read category enrols Passengers (λ x. x .amount * 100 * x .distance) byMass (λ r. refl) (elementAt ws p))
+        elements-sum (λ k e. amongIn category Passengers byMassIn e) (λ p. among category Passengers byMass (elementAt ws p))
+        (λ p h. among-read category enrols Passengers byMassIn byMass (λ r. refl) (elementAt ws p))
 
   -- the exact share by the tally's sums is that by the book's
   pub exact-read : (r : Element) (side : Side) → (r .category ≡ 0 → ⊥) → exactIn (tallyOf ws) side (enrolmentOf r) ≡ exactOf ws (r .category) side r
@@ -156,7 +157,8 @@ module _ (ws : List ℕ) where
     waits-read p h = go (eqb (elementAt ws p .category) 0) refl
       where
         go : (t : Bool) → eqb (elementAt ws p .category) 0 ≡ t
-            → waitsIn (tallyOf ws) (cond t (quoted (quotationOf (elementAt ws p))) (enrolled (enrolmentOf (elementAt ws p)))) ≡ not t && not (isClosed ws (elementAt ws p .category))
+            → waitsIn (tallyOf ws) (cond t (quoted (quotationOf (elementAt ws p))) (enrolled (enrolmentOf (elementAt ws p))))
+            ≡ not t && not (isClosed ws (elementAt ws p .category))
         go true e = refl
         go false e =
             let there = eqb-false (elementAt ws p .category) 0 e in
@@ -173,8 +175,6 @@ module _ (ws : List ℕ) where
         ≡ sumBelow (entries ws) (λ p. cond (isClosed ws (entryAt ws p .category)) (unstruck side (entryAt ws p)) 0)
     closed-sum side =
         entries-sum (λ k e. entryEmissions (tallyOf ws) side e)
-        ∙ sum-cong (entries ws)
-        (λ p. entryEmissions (tallyOf ws) side (readEntry (entryAt ws p)))
         (λ p. cond (isClosed ws (entryAt ws p .category)) (unstruck side (entryAt ws p)) 0)
         (entry-emissions-read side)
 
@@ -182,7 +182,5 @@ module _ (ws : List ℕ) where
       ≡ sumBelow (elements ws) (λ p. cond (eqb (elementAt ws p .category) 0) (shareOf side (elementAt ws p)) 0)
   quoted-sum side =
       elements-sum (λ k e. elementEmissions side e)
-      ∙ sum-cong (elements ws)
-      (λ p. elementEmissions side (readElement (elementAt ws p)))
       (λ p. cond (eqb (elementAt ws p .category) 0) (shareOf side (elementAt ws p)) 0)
       (λ p h. element-emissions-read side (elementAt ws p))

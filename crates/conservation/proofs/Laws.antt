@@ -6,6 +6,7 @@ use mathlib.Core.Path.{_≡_, refl, sym, ap, _∙_}
 use Prim.Native.Nat.{ℕ, _+_, _-_, _≤_, _<_}
 use native.Mathlib.Omega.{arith}
 use lib.Dec.{eqb, leb}
+use lib.ListN.{length}
 use borrow.Author.Tests.{le-leb}
 use Rattle.apportion.specs.Places.{oneIf, sumBelow}
 use Rattle.book_words.specs.Book.{elements, elementAt, isClosed}
@@ -19,15 +20,18 @@ use Rattle.apportion.proofs.Grounds.{either}
 use Rattle.apportion.proofs.Sums.{sum-cong}
 use Rattle.book_words.proofs.Booleans.{and-both}
 use Rattle.book_words.proofs.Handed.{category-inside, open-shares, shares-all, shares-by-chain}
-use Rattle.book.proofs.Laws.{fresh-accepted, fresh-sound, open-sound, open-refused, post-sound, post-refused, strike-sound, strike-refused, enrol-sound, enrol-refused, quote-sound, quote-refused, close-sound, close-refused, statement-accepted}
+use Rattle.book.proofs.Laws.{fresh-accepted, fresh-sound, open-sound, open-refused, post-sound, post-refused, strike-sound, strike-refused}
+use Rattle.book.proofs.Laws.{open-added, post-added, strike-struck, enrol-added, quote-added, close-closed}
+use Rattle.book.proofs.Laws.{enrol-sound, enrol-refused, quote-sound, quote-refused, close-sound, close-refused, statement-accepted}
 use Rattle.conservation.specs.declared.Call.{Call}
 use Rattle.conservation.specs.declared.Call.the-variants.{Open, Post, Strike, Enrol, Quote, Close}
 use Rattle.conservation.specs.Conserved.{gets, chainOf, waitsIn, chainGets, statementIn, quotedOn, statedOn, emissions, exactIn, Conserved, Conservation}
 use Rattle.conservation.specs.Runs.{Run, step, next, after, runOf}
 use Rattle.conservation.specs.Tally.{Enrolment, Quotation, enrolled, quoted, numbered, closedIn, feed}
 use Rattle.conservation.proofs.Near.{Near, near-fresh, near-open, near-post, near-strike, near-enrol, near-quote, near-close}
-use Rattle.conservation.proofs.Reading.{enrolmentOf, quotationOf, readElement, tallyOf, closed-read, fresh-read, step-read}
-use Rattle.conservation.proofs.Agreement.{read-enrolled, read-quoted, chain-read, elements-sum, element-told, exact-read, waits-read, closed-sum, quoted-sum}
+use Rattle.conservation.proofs.Reading.{enrolmentOf, quotationOf, tallyOf, closed-read, fresh-read, step-read}
+use Rattle.conservation.proofs.Agreement.{read-enrolled, read-quoted, chain-read, elements-sum, element-told, exact-read}
+use Rattle.conservation.proofs.Agreement.{waits-read, closed-sum, quoted-sum}
 pub use Rattle.conservation.proofs.Listing.{numbered-each}
 
 -- a sound book whose closed categories' shares are near, with the tally that it is read as
@@ -41,8 +45,6 @@ module _ (ws : List ℕ) (fine : sound ws ≡ true) where
   counted chain =
       sym
       (elements-sum ws (λ k e. oneIf (eqb (chainOf e) chain))
-      ∙ sum-cong (elements ws)
-      (λ p. oneIf (eqb (chainOf (readElement (elementAt ws p))) chain))
       (λ p. oneIf (ofChain chain (elementAt ws p)))
       (λ p h. ap (λ (n : ℕ). oneIf (eqb n chain)) (chain-read (elementAt ws p))))
 
@@ -51,8 +53,6 @@ module _ (ws : List ℕ) (fine : sound ws ≡ true) where
   waiting chain =
       sym
       (elements-sum ws (λ k e. oneIf (eqb (chainOf e) chain && waitsIn (tallyOf ws) e))
-      ∙ sum-cong (elements ws)
-      (λ p. oneIf (eqb (chainOf (readElement (elementAt ws p))) chain && waitsIn (tallyOf ws) (readElement (elementAt ws p))))
       (λ p. oneIf (ofChain chain (elementAt ws p) && waits ws (elementAt ws p)))
       (λ p h. rw (chain-read (elementAt ws p), waits-read ws fine p h)))
 
@@ -61,8 +61,6 @@ module _ (ws : List ℕ) (fine : sound ws ≡ true) where
   gotten chain side =
       sym
       (elements-sum ws (λ k e. cond (eqb (chainOf e) chain) (gets ws k side) 0)
-      ∙ sum-cong (elements ws)
-      (λ p. cond (eqb (chainOf (readElement (elementAt ws p))) chain) (gets ws (p + 1) side) 0)
       (λ p. cond (ofChain chain (elementAt ws p)) (shareOf side (elementAt ws p)) 0)
       (λ p h.
       let back : p + 1 - 1 ≡ p = omega arith in
@@ -99,11 +97,11 @@ module _ (ws : List ℕ) (fine : sound ws ≡ true) where
     record-read : (elementAt ws (k - 1) .category ≡ 0 → ⊥) × (enrolmentOf (elementAt ws (k - 1)) ≡ e)
     record-read = read-enrolled (elementAt ws (k - 1)) e (element-told ws k (enrolled e) is .2)
 
-    category-closed : (b : Bool) → closedIn (tallyOf ws) (e .category) ≡ b → isClosed ws (elementAt ws (k - 1) .category) ≡ b
+    category-closed : (b : Bool) → closedIn (tallyOf ws) (e .arguments .category) ≡ b → isClosed ws (elementAt ws (k - 1) .category) ≡ b
     category-closed b is′ =
         let there = record-read .0 in
         sym (closed-read ws (elementAt ws (k - 1) .category) (omega arith) (category-inside ws fine (k - 1) inside))
-        ∙ ap (λ (x : Enrolment). closedIn (tallyOf ws) (x .category)) (record-read .1)
+        ∙ ap (λ (x : Enrolment). closedIn (tallyOf ws) (x .arguments .category)) (record-read .1)
         ∙ is′
 
   conserving : Near ws → Conserved (tallyOf ws) ws
@@ -114,7 +112,8 @@ module _ (ws : List ℕ) (fine : sound ws ≡ true) where
         closed-near = λ k e is closed side.
             let r = elementAt ws (k - 1) in
             let there = record-read k e is in
-            let exact : exactIn (tallyOf ws) side e ≡ exactOf ws (r .category) side r = ap (exactIn (tallyOf ws) side) (sym (there .1)) ∙ exact-read ws r side (there .0) in
+            let exact : exactIn (tallyOf ws) side e ≡ exactOf ws (r .category) side r =
+            ap (exactIn (tallyOf ws) side) (sym (there .1)) ∙ exact-read ws r side (there .0) in
             rw exact (near (k - 1) (inside k e is) (there .0) (category-closed k e is true closed) side);
         quoted-exact = λ k q is side. of-side side k q (read-quoted (elementAt ws (k - 1)) q (element-told ws k (quoted q) is .2) .1);
         open-none = λ k e is unclosed side. open-shares ws fine (k - 1) (inside k e is) (record-read k e is .0) (category-closed k e is false unclosed) side;
@@ -128,35 +127,43 @@ module _ (ws : List ℕ) (fine : sound ws ≡ true) where
 pub step-refused : (ws : List ℕ) (call : Call) → (step ws call .reply .refusal ≡ 0 → ⊥) → step ws call .book ≡ ws
 unfolding openReply postReply enrolReply quoteReply
 step-refused ws (Open kind) = open-refused ws kind
-step-refused ws (Post category group quantity operationFactor provisionFactor) =
-    post-refused ws category group quantity operationFactor provisionFactor
+step-refused ws (Post p) = post-refused ws p
 step-refused ws (Strike entry) = strike-refused ws entry
-step-refused ws (Enrol category chain code amount distance) = enrol-refused ws category chain code amount distance
-step-refused ws (Quote chain adjust mass distance operationIntensity provisionIntensity) =
-    quote-refused ws chain adjust mass distance operationIntensity provisionIntensity
+step-refused ws (Enrol enrolment) = enrol-refused ws enrolment
+step-refused ws (Quote q) = quote-refused ws q
 step-refused ws (Close category) = close-refused ws category
+
+-- a call, accepted or refused, leaves as many words as there were
+made-length : (ws : List ℕ) (call : Call) → step ws call .reply .refusal ≡ 0 → length (step ws call .book) ≡ length ws
+unfolding openReply postReply enrolReply quoteReply
+made-length ws (Open kind) e = open-added ws kind e .same-length
+made-length ws (Post p) e = post-added ws p e .same-length
+made-length ws (Strike entry) e = strike-struck ws entry e .same-length
+made-length ws (Enrol enrolment) e = enrol-added ws enrolment e .same-length
+made-length ws (Quote q) e = quote-added ws q e .same-length
+made-length ws (Close category) e = close-closed ws category e .same-length
+
+pub step-length : (ws : List ℕ) (call : Call) → length (step ws call .book) ≡ length ws
+step-length ws call =
+    either (λ b. length b ≡ length ws) (step ws call .reply .refusal) (step ws call .book) ws (step-refused ws call) (made-length ws call) refl
 
 -- a call, accepted or refused, leaves a sound book sound
 pub sound-step : (ws : List ℕ) (call : Call) → sound ws ≡ true → sound (step ws call .book) ≡ true
 sound-step ws (Open kind) = open-sound ws kind
-sound-step ws (Post category group quantity operationFactor provisionFactor) =
-    post-sound ws category group quantity operationFactor provisionFactor
+sound-step ws (Post p) = post-sound ws p
 sound-step ws (Strike entry) = strike-sound ws entry
-sound-step ws (Enrol category chain code amount distance) = enrol-sound ws category chain code amount distance
-sound-step ws (Quote chain adjust mass distance operationIntensity provisionIntensity) =
-    quote-sound ws chain adjust mass distance operationIntensity provisionIntensity
+sound-step ws (Enrol enrolment) = enrol-sound ws enrolment
+sound-step ws (Quote q) = quote-sound ws q
 sound-step ws (Close category) = close-sound ws category
 
 -- an accepted call leaves the shares near
 near-made : (ws : List ℕ) (call : Call) → step ws call .reply .refusal ≡ 0 → Near ws → Near (step ws call .book)
 unfolding openReply postReply enrolReply quoteReply
 near-made ws (Open kind) = near-open ws kind
-near-made ws (Post category group quantity operationFactor provisionFactor) =
-    near-post ws category group quantity operationFactor provisionFactor
+near-made ws (Post p) = near-post ws p
 near-made ws (Strike entry) = near-strike ws entry
-near-made ws (Enrol category chain code amount distance) = near-enrol ws category chain code amount distance
-near-made ws (Quote chain adjust mass distance operationIntensity provisionIntensity) =
-    near-quote ws chain adjust mass distance operationIntensity provisionIntensity
+near-made ws (Enrol enrolment) = near-enrol ws enrolment
+near-made ws (Quote q) = near-quote ws q
 near-made ws (Close category) = near-close ws category
 
 near-step : (ws : List ℕ) (call : Call) → Near ws → Near (step ws call .book)

@@ -116,7 +116,8 @@ changed-last change [] y = refl
 changed-last change (x ∷ xs) y = ap (λ (zs : List _). x ∷ zs) (changed-last change xs y)
 
 -- one before the last is changed
-changed-early : {A : Type 0} (change : A → A) (xs : List A) (y : A) (k : ℕ) → k ≤ length xs → changed change (xs ++ (y ∷ [])) k ≡ changed change xs k ++ (y ∷ [])
+changed-early : {A : Type 0} (change : A → A) (xs : List A) (y : A) (k : ℕ) → k ≤ length xs
+    → changed change (xs ++ (y ∷ [])) k ≡ changed change xs k ++ (y ∷ [])
 changed-early change [] y zero h = refl
 changed-early change [] y (suc k) h = let z : ⊥ = omega arith in absurd z
 changed-early change (x ∷ xs) y zero h = refl
@@ -124,7 +125,8 @@ changed-early change (x ∷ xs) y (suc zero) h = refl
 changed-early change (x ∷ xs) y (suc (suc k)) h = ap (λ (zs : List _). x ∷ zs) (changed-early change xs y (suc k) (omega arith))
 
 -- one record is changed
-pub changed-at : {A : Type 0} (change : A → A) (n : ℕ) (f g : ℕ → A) (p : ℕ) → p < n → g p ≡ change (f p) → ((q : ℕ) → q < n → (q ≡ p → ⊥) → g q ≡ f q) → changed change (listing n f) (p + 1) ≡ listing n g
+changed-at : {A : Type 0} (change : A → A) (n : ℕ) (f g : ℕ → A) (p : ℕ) → p < n → g p ≡ change (f p)
+    → ((q : ℕ) → q < n → (q ≡ p → ⊥) → g q ≡ f q) → changed change (listing n f) (p + 1) ≡ listing n g
 changed-at change zero f g p h new same = let z : ⊥ = omega arith in absurd z
 changed-at change (suc n) f g p h new same =
     ⊎-elim
@@ -138,6 +140,13 @@ changed-at change (suc n) f g p h new same =
     changed-early change (listing n f) (f n) (p + 1) (omega (arith, listing-length n f))
     ∙ rw (changed-at change n f g p (omega arith) new (λ q i ne. same q (omega arith) ne), same n (omega arith) (λ z. omega arith)))
     (eq-or-lt-of-le h)
+
+-- the record of a number is changed
+pub changed-number : {A : Type 0} (change : A → A) (n n′ k : ℕ) (f g : ℕ → A) → n′ ≡ n → 1 ≤ k → k ≤ n → g (k - 1) ≡ change (f (k - 1))
+    → ((q : ℕ) → q < n → (q ≡ k - 1 → ⊥) → g q ≡ f q) → changed change (listing n f) k ≡ listing n′ g
+changed-number change n n′ k f g e low high new same =
+    let back : k ≡ k - 1 + 1 = omega arith in
+    ap (changed change (listing n f)) back ∙ changed-at change n f g (k - 1) (omega arith) new same ∙ ap (λ (m : ℕ). listing m g) (sym e)
 
 -- a record that is added is added to a sum with the next number
 sum-last : {A : Type 0} (number : ℕ) (xs : List A) (y : A) (h : ℕ → A → ℕ) → sumFrom number (xs ++ (y ∷ [])) h ≡ sumFrom number xs h + h (number + length xs) y

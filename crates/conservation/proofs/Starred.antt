@@ -4,12 +4,14 @@ use Rattle.apportion.specs.Dividing.{refusal, sharesAfter, divided, floorAt, re
 use Rattle.apportion.specs.Places.{sumOf}
 use Rattle.book_words.specs.Book.{addCategory, addEntry, addElement}
 use Rattle.book_words.specs.Measures.{activityOf, massActivity}
-use Rattle.book_words.specs.Soundness.{headerFine, categoryFine, entrySuits, entryFine, measured, quotedSuits, elementSuits, elementFine, sumsFine, sharesFine, categoriesFine, entriesFine, elementsFine, closingsFine, sound}
+use Rattle.book_words.specs.Soundness.{headerFine, categoryFine, entrySuits, entryFine, measured, quotedSuits, elementSuits, elementFine}
+use Rattle.book_words.specs.Soundness.{sumsFine, sharesFine, categoriesFine, entriesFine, elementsFine, closingsFine, sound}
 use Rattle.book_words.specs.Totals.{allUnstruck, unstruckOf, sharesOf, activities}
 use Rattle.book_shares.specs.Closing.{closeRefusal, closeWith, closeBook}
 use Rattle.book_shares.specs.Shares.{dividedAll, weights, partAt, closingShare}
 use Rattle.book_shares.specs.Sums.{pool as poolOf, activityAmong, passengersByMass}
-use Rattle.book.specs.Calls.{cleared, freshRefusal, freshBook, openRefusal, openReply, openBook, postRefusal, postReply, postBook, enrolRefusal, enrolReply, enrolBook, quotedAmount, quoteRefusal, quoteReply, quoteBook}
+use Rattle.book.specs.Calls.{cleared, freshRefusal, freshBook, openRefusal, openReply, openBook, postRefusal, postReply, postBook}
+use Rattle.book.specs.Calls.{enrolRefusal, enrolReply, enrolBook, quotedAmount, quoteRefusal, quoteReply, quoteBook}
 use Rattle.conservation.specs.Conserved.{emissions}
 use Rattle.conservation.specs.Tally.{closedIn}
 use Rattle.conservation.specs.Starred.{EveryRow, starred}

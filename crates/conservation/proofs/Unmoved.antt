@@ -32,7 +32,7 @@ sum-kept n (suc n′) f f′ h same none =
     (eq-or-lt-of-le h)
 
 -- a measure that does not look at the shares
-abbrev pub Blind : (Element → ℕ) → Type 0
+abbrev Blind : (Element → ℕ) → Type 0
 Blind f = (r : Element) (x y : ℕ) → f (withShares r x y) ≡ f r
 
 -- an entry of another category adds nothing to a pool
@@ -132,7 +132,8 @@ module _ (ws ws′ : List ℕ) (category : ℕ) where
   passengers-same u = among-same u Passengers byMass (λ r x y. refl)
 
   -- and so is every exact share by these sums
-  pub exact-same : EntriesUnmoved ws ws′ category → ElementsUnmoved ws ws′ category → (side : Side) (r : Element) → exactOf ws′ category side r ≡ exactOf ws category side r
+  pub exact-same : EntriesUnmoved ws ws′ category → ElementsUnmoved ws ws′ category → (side : Side) (r : Element)
+      → exactOf ws′ category side r ≡ exactOf ws category side r
   unfolding exactShare
   exact-same u v side r =
       rw (

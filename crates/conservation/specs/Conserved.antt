@@ -4,13 +4,13 @@ use mathlib.Core.Bool.{Bool, true, false, cond, not, _&&_}
 use mathlib.Core.List.{List, [], _∷_}
 use mathlib.Core.Option.{some}
 use mathlib.Core.Path.{_≡_}
-use Prim.Native.Nat.{ℕ, _+_, _*_, _-_, _≤_}
+use Prim.Native.Nat.{ℕ, _+_, _-_, _≤_}
 use lib.Dec.{eqb}
 use lib.ListN.{length}
 use Rattle.apportion.specs.Nearness.{Within}
 use Rattle.apportion.specs.Places.{sumBelow, oneIf}
 use Rattle.book_words.specs.Book.{bookLength, elementAt}
-use Rattle.book_words.specs.Measures.{mostChains}
+use Rattle.book_words.specs.Measures.{headsByMass, mostChains}
 use Rattle.book_words.specs.Totals.{Side, operation, provision, shareOf}
 use Rattle.book_shares.specs.declared.weights.Takers.{Takers}
 use Rattle.book_shares.specs.declared.weights.Takers.the-variants.{Freight, Passengers, Group}
@@ -42,12 +42,12 @@ gets ws k side = shareOf side (elementAt ws (k - 1))
 
 -- the element's chain
 abbrev pub chainOf : TallyElement → ℕ
-chainOf (enrolled e) = e .chain
+chainOf (enrolled e) = e .arguments .chain
 chainOf (quoted q) = q .chain
 
 -- the element is in an open category; a quote is in none
 abbrev pub waitsIn : Tally → TallyElement → Bool
-waitsIn t (enrolled e) = not (closedIn t (e .category))
+waitsIn t (enrolled e) = not (closedIn t (e .arguments .category))
 waitsIn t (quoted q) = false
 
 -- what the elements of a chain get
@@ -99,28 +99,32 @@ poolIn t category group side =
 -- what an enrolment in the category, with a code that these takers have, measures; 0 for any other element
 abbrev pub amongIn : ℕ → Takers → (Enrolment → ℕ) → TallyElement → ℕ
 amongIn category takers measure (enrolled e) =
-    cond (eqb (e .category) category && takes takers (e .code)) (measure e) 0
+    cond (eqb (e .arguments .category) category && takes takers (e .arguments .code)) (measure e) 0
 amongIn category takers measure (quoted q) = 0
 
 -- "F is the freight activity", "C is the passengers' activity", and S is a group's "activity"
 unfoldable pub activityIn : Tally → ℕ → Takers → ℕ
 activityIn t category takers = sumOver (t .elements) (amongIn category takers (λ e. e .activity))
 
+-- an enrolment's passengers by mass
+abbrev pub byMassIn : Enrolment → ℕ
+byMassIn e = headsByMass (e .arguments .amount) (e .arguments .distance)
+
 -- "P is the sum of head count × 100 × distance (100 kg per passenger, Annex A.4.2)"
 unfoldable pub massIn : Tally → ℕ → ℕ
-massIn t category = sumOver (t .elements) (amongIn category Passengers (λ e. e .amount * 100 * e .distance))
+massIn t category = sumOver (t .elements) (amongIn category Passengers byMassIn)
 
 -- the exact share of an enrolment, by these sums
 unfoldable pub exactIn : Tally → Side → Enrolment → Fraction
 exactIn t side e =
     exactShare
-    (poolIn t (e .category) 0 side)
-    (activityIn t (e .category) Freight)
-    (massIn t (e .category))
-    (activityIn t (e .category) Passengers)
-    (λ g. poolIn t (e .category) g side)
-    (λ g. activityIn t (e .category) (Group g))
-    (e .code)
+    (poolIn t (e .arguments .category) 0 side)
+    (activityIn t (e .arguments .category) Freight)
+    (massIn t (e .arguments .category))
+    (activityIn t (e .arguments .category) Passengers)
+    (λ g. poolIn t (e .arguments .category) g side)
+    (λ g. activityIn t (e .arguments .category) (Group g))
+    (e .arguments .code)
     (e .activity)
 
 -- demand 3, sentence by sentence
@@ -130,12 +134,12 @@ pub record Conserved (t : Tally) (ws : List ℕ) : Type 0 where
   -- "all emissions of closed categories and quotes are handed out, none twice"
   pub all-handed-out : (side : Side) → sumBelow mostChains (λ p. statedOn side (statementReply ws (p + 1))) ≡ emissions t side
   -- "every share of a closed category is less than 3 micrograms from its exact fraction"
-  pub closed-near : (k : ℕ) (e : Enrolment) → numbered (t .elements) k ≡ some (enrolled e) → closedIn t (e .category) ≡ true
+  pub closed-near : (k : ℕ) (e : Enrolment) → numbered (t .elements) k ≡ some (enrolled e) → closedIn t (e .arguments .category) ≡ true
       → (side : Side) → Within 3 (gets ws k side) (exactIn t side e .numerator) (exactIn t side e .denominator)
   -- "quoted elements hold exactly their amounts,"
   pub quoted-exact : (k : ℕ) (q : Quotation) → numbered (t .elements) k ≡ some (quoted q) → (side : Side) → gets ws k side ≡ quotedOn side q
   -- "open categories none."
-  pub open-none : (k : ℕ) (e : Enrolment) → numbered (t .elements) k ≡ some (enrolled e) → closedIn t (e .category) ≡ false
+  pub open-none : (k : ℕ) (e : Enrolment) → numbered (t .elements) k ≡ some (enrolled e) → closedIn t (e .arguments .category) ≡ false
       → (side : Side) → gets ws k side ≡ 0
 
 -- "One theorem over whole lists": an accepted fresh on any words that have room for a book, then any calls

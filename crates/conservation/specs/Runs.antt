@@ -20,22 +20,10 @@ refusalAlone refusal = record { refusal = refusal; number = 0 }
 -- a call; the contract of `perform` is that it answers and leaves this
 abbrev pub step : List ℕ → Call → Step
 step ws (Open kind) = record { reply = openReply ws kind; book = openBook ws kind }
-step ws (Post category group quantity operationFactor provisionFactor) =
-    record {
-      reply = postReply ws category group quantity operationFactor provisionFactor;
-      book = postBook ws category group quantity operationFactor provisionFactor;
-    }
+step ws (Post p) = record { reply = postReply ws p; book = postBook ws p }
 step ws (Strike entry) = record { reply = refusalAlone (strikeRefusal ws entry); book = strikeBook ws entry }
-step ws (Enrol category chain code amount distance) =
-    record {
-      reply = enrolReply ws category chain code amount distance;
-      book = enrolBook ws category chain code amount distance;
-    }
-step ws (Quote chain adjust mass distance operationIntensity provisionIntensity) =
-    record {
-      reply = quoteReply ws chain adjust mass distance operationIntensity provisionIntensity;
-      book = quoteBook ws chain adjust mass distance operationIntensity provisionIntensity;
-    }
+step ws (Enrol e) = record { reply = enrolReply ws e; book = enrolBook ws e }
+step ws (Quote q) = record { reply = quoteReply ws q; book = quoteBook ws q }
 step ws (Close category) = record { reply = refusalAlone (closeRefusal ws category); book = closeBook ws category }
 
 -- a book with the tally that is kept beside it

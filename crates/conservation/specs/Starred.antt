@@ -42,6 +42,36 @@ pub record Row : Type 0 where
 abbrev pub row : Case → List ℕ → Row
 row case shares = record { case = case; shares = shares }
 
+-- a post to category 1 whose factors are 1
+abbrev post : ℕ → ℕ → Call
+post group quantity =
+    Post
+    (record {
+      category = 1;
+      group = group;
+      quantity = quantity;
+      «operation_factor» = 1;
+      «provision_factor» = 1;
+    })
+
+-- an enrolment in category 1 over 1 m
+abbrev enrol : ℕ → ℕ → ℕ → Call
+enrol chain code amount =
+    Enrol (record { category = 1; chain = chain; code = code; amount = amount; distance = 1 })
+
+-- a quote for chain 1 whose intensities are the same
+abbrev quote : ℕ → ℕ → ℕ → ℕ → Call
+quote adjust mass distance intensity =
+    Quote
+    (record {
+      chain = 1;
+      adjust = adjust;
+      mass = mass;
+      distance = distance;
+      «operation_intensity» = intensity;
+      «provision_intensity» = intensity;
+    })
+
 -- Both factors of a post, and both intensities of a quote, are the same here, so that the shares are those of operation and of
 -- provision.
 abbrev pub starred : List Row
@@ -56,10 +86,10 @@ starred =
     ∷ row
     (callsMade
     (Open 3
-    ∷ Post 1 0 9 1 1
-    ∷ Enrol 1 1 0 100 1
-    ∷ Enrol 1 2 100 1 1
-    ∷ Enrol 1 3 400 1 1
+    ∷ post 0 9
+    ∷ enrol 1 0 100
+    ∷ enrol 2 100 1
+    ∷ enrol 3 400 1
     ∷ Close 1
     ∷ []))
     (3 ∷ 1 ∷ 5 ∷ [])
@@ -67,17 +97,17 @@ starred =
     ∷ row
     (callsMade
     (Open 1
-    ∷ Post 1 0 8 1 1
-    ∷ Post 1 1 5 1 1
-    ∷ Enrol 1 1 0 100 1
-    ∷ Enrol 1 2 1 300 1
+    ∷ post 0 8
+    ∷ post 1 5
+    ∷ enrol 1 0 100
+    ∷ enrol 2 1 300
     ∷ Close 1
     ∷ []))
     (2 ∷ 11 ∷ [])
     -- "*Quote 1, 500 kg, 1 m: 1."
-    ∷ row (callsMade (Quote 1 0 500 1 1 1 ∷ [])) (1 ∷ [])
+    ∷ row (callsMade (quote 0 500 1 1 ∷ [])) (1 ∷ [])
     -- "*Quote 600000, adjust 1, 1000 kg, 905,000 m: 600,000,000,000."
-    ∷ row (callsMade (Quote 1 1 1000 905_000 600_000 600_000 ∷ [])) (600_000_000_000 ∷ [])
+    ∷ row (callsMade (quote 1 1000 905_000 600_000 ∷ [])) (600_000_000_000 ∷ [])
     ∷ []
 
 -- a row is as it was reckoned by hand, and its shares are all that there is to hand out, on both sides

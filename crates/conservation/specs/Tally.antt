@@ -3,10 +3,14 @@
 use mathlib.Core.Bool.{Bool, true, false}
 use mathlib.Core.List.{List, [], _∷_, _++_}
 use mathlib.Core.Option.{Option, none, some}
-use Prim.Native.Nat.{ℕ, zero, suc, _*_}
+use Prim.Native.Nat.{ℕ, zero, suc}
 use Rattle.apportion.specs.Grounds.{accepted}
 use Rattle.book_words.specs.Measures.{activityOf}
-use Rattle.book.specs.Calls.{quotedAmount}
+use Rattle.book_words.specs.Totals.{operation, provision}
+use Rattle.book.specs.Calls.{postedAmount, quotedAmount}
+use Rattle.book.specs.declared.arguments.EnrolArguments.{EnrolArguments}
+use Rattle.book.specs.declared.arguments.PostArguments.{PostArguments}
+use Rattle.book.specs.declared.arguments.QuoteArguments.{QuoteArguments}
 use Rattle.conservation.specs.declared.Call.{Call}
 use Rattle.conservation.specs.declared.Call.the-variants.{Open, Post, Strike, Enrol, Quote, Close}
 
@@ -23,11 +27,7 @@ pub record TallyEntry : Type 0 where
 
 -- an enrolment's "arguments and activity"
 pub record Enrolment : Type 0 where
-  pub category : ℕ
-  pub chain : ℕ
-  pub code : ℕ
-  pub amount : ℕ
-  pub distance : ℕ
+  pub arguments : EnrolArguments
   pub activity : ℕ
 
 -- a quote's "chain and its two amounts, operation and provision"
@@ -87,16 +87,16 @@ tallyOpen t kind =
     }
 
 -- "An accepted post adds an entry: category, group, quantity × operation factor, quantity × provision factor, not struck."
-abbrev pub tallyPost : Tally → ℕ → ℕ → ℕ → ℕ → ℕ → Tally
-tallyPost t category group quantity operationFactor provisionFactor =
+abbrev pub tallyPost : Tally → PostArguments → Tally
+tallyPost t p =
     record {
       categories = t .categories;
       entries = t .entries
           ++ (record {
-            category = category;
-            group = group;
-            operation = quantity * operationFactor;
-            provision = quantity * provisionFactor;
+            category = p .category;
+            group = p .group;
+            operation = postedAmount operation p;
+            provision = postedAmount provision p;
             struck = false;
           }
           ∷ []);
@@ -123,30 +123,21 @@ abbrev pub withElement : Tally → TallyElement → Tally
 withElement t e = record { categories = t .categories; entries = t .entries; elements = t .elements ++ (e ∷ []) }
 
 -- "An accepted enrolment adds an element with its arguments and activity."
-abbrev pub tallyEnrol : Tally → ℕ → ℕ → ℕ → ℕ → ℕ → Tally
-tallyEnrol t category chain code amount distance =
+abbrev pub tallyEnrol : Tally → EnrolArguments → Tally
+tallyEnrol t e =
     withElement t
     (enrolled
     (record {
-      category = category;
-      chain = chain;
-      code = code;
-      amount = amount;
-      distance = distance;
-      activity = activityOf (kindOf (numbered (t .categories) category)) code amount distance;
+      arguments = e;
+      activity = activityOf (kindOf (numbered (t .categories) (e .category))) (e .code) (e .amount) (e .distance);
     }))
 
 -- "An accepted quote adds an element with its chain and its two amounts, operation and provision, by the formula and rounding
 -- under quote."
-abbrev pub tallyQuote : Tally → ℕ → ℕ → ℕ → ℕ → ℕ → ℕ → Tally
-tallyQuote t chain adjust mass distance operationIntensity provisionIntensity =
+abbrev pub tallyQuote : Tally → QuoteArguments → Tally
+tallyQuote t q =
     withElement t
-    (quoted
-    (record {
-      chain = chain;
-      operation = quotedAmount adjust mass distance operationIntensity;
-      provision = quotedAmount adjust mass distance provisionIntensity;
-    }))
+    (quoted (record { chain = q .chain; operation = quotedAmount operation q; provision = quotedAmount provision q }))
 
 -- "An accepted closing marks the category it names as closed."
 abbrev pub markClosed : TallyCategory → TallyCategory
@@ -159,12 +150,10 @@ tallyClose t category =
 -- what an accepted call makes of the tally
 abbrev pub tallied : Tally → Call → Tally
 tallied t (Open kind) = tallyOpen t kind
-tallied t (Post category group quantity operationFactor provisionFactor) =
-    tallyPost t category group quantity operationFactor provisionFactor
+tallied t (Post p) = tallyPost t p
 tallied t (Strike entry) = tallyStrike t entry
-tallied t (Enrol category chain code amount distance) = tallyEnrol t category chain code amount distance
-tallied t (Quote chain adjust mass distance operationIntensity provisionIntensity) =
-    tallyQuote t chain adjust mass distance operationIntensity provisionIntensity
+tallied t (Enrol e) = tallyEnrol t e
+tallied t (Quote q) = tallyQuote t q
 tallied t (Close category) = tallyClose t category
 
 -- "A refused call changes nothing in it."

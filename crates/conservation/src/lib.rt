@@ -2,6 +2,9 @@
 // here, so that lists of calls can be spoken of.
 ghost use mathlib.Core.Path.{_≡_};
 ghost use Rattle.conservation.specs.Runs.{refusalAlone, step};
+use book::EnrolArguments;
+use book::PostArguments;
+use book::QuoteArguments;
 use book::Reply;
 
 // A call of a list, with its arguments. A list starts from a fresh book; statement and intensity are lent the
@@ -9,14 +12,11 @@ use book::Reply;
 pub enum Call {
     // Kind.
     Open(u64),
-    // Category, group, quantity, operation factor, provision factor.
-    Post(u64, u64, u64, u64, u64),
+    Post(PostArguments),
     // Entry.
     Strike(u64),
-    // Category, chain, code, amount, distance.
-    Enrol(u64, u64, u64, u64, u64),
-    // Chain, adjust, mass, distance, operation intensity, provision intensity.
-    Quote(u64, u64, u64, u64, u64, u64),
+    Enrol(EnrolArguments),
+    Quote(QuoteArguments),
     // Category.
     Close(u64),
 }
@@ -28,32 +28,10 @@ pub fn perform(book: &mut [u64], call: Call) -> Reply
 {
     match call {
         Call::Open(kind) => book::open(book, kind),
-        Call::Post(category, group, quantity, operation, provision) => book::post(
-            book,
-            category,
-            group,
-            quantity,
-            operation,
-            provision,
-        ),
+        Call::Post(p) => book::post(book, p),
         Call::Strike(entry) => refusal_alone(book::strike(book, entry)),
-        Call::Enrol(category, chain, code, amount, distance) => book::enrol(
-            book,
-            category,
-            chain,
-            code,
-            amount,
-            distance,
-        ),
-        Call::Quote(chain, adjust, mass, distance, operation, provision) => book::quote(
-            book,
-            chain,
-            adjust,
-            mass,
-            distance,
-            operation,
-            provision,
-        ),
+        Call::Enrol(e) => book::enrol(book, e),
+        Call::Quote(q) => book::quote(book, q),
         Call::Close(category) => refusal_alone(book::close(book, category)),
     }
 }

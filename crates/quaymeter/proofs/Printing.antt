@@ -22,8 +22,8 @@ use Rattle.report.specs.declared.printing.Printed.{Printed}
 use Rattle.quaymeter.specs.Program.{refusedLine, textFor, printedFrom}
 
 -- a text that fits is printed whole
-pub whole-length : (text : List ℕ) (room : ℕ) (answer : Printed) → answer ≡ answerFor text room → length text ≤ room → bytesWritten answer ≡ length text
-whole-length text room answer is h = ap bytesWritten (is ∙ fitting-written text room h)
+pub whole-length : (text : List ℕ) (room : ℕ) {answer : Printed} → answer ≡ answerFor text room → length text ≤ room → bytesWritten answer ≡ length text
+whole-length text room is h = ap bytesWritten (is ∙ fitting-written text room h)
 
 -- the sheet of a book, or the line of a refusal
 fits-for : (answer : Load) (book : List ℕ) → (answer ≡ Loaded → sound book ≡ true) → length (textFor answer book) ≤ sheetRoom
@@ -33,15 +33,16 @@ fits-for (Stopped number place) book fine =
     omega (arith, refused-fits (n .refusal) (n .table) (n .«record»))
 
 -- by the answer of loading
-pub printed-book : (words file book : List ℕ) (answer : Load) → answer ≡ Loaded → answer ≡ loadAnswer words file → book ≡ loadBook words file → sheetText book ≡ printedFrom words file
+pub printed-book : (words file : List ℕ) {book : List ℕ} {answer : Load} → answer ≡ Loaded → answer ≡ loadAnswer words file
+    → book ≡ loadBook words file → sheetText book ≡ printedFrom words file
 unfolding printedFrom
-printed-book words file book answer told is left =
+printed-book words file told is left =
     ap (λ (b : List ℕ). textFor Loaded b) left ∙ ap (λ (a : Load). textFor a (loadBook words file)) (sym told ∙ is)
 
-pub printed-refusal : (words file : List ℕ) (answer : Load) (number : ℕ) (place : Place) → answer ≡ Stopped number place → answer ≡ loadAnswer words file
-    → refusedLine (placeNumbers number place) ≡ printedFrom words file
+pub printed-refusal : (words file : List ℕ) {answer : Load} {number : ℕ} {place : Place} → answer ≡ Stopped number place
+    → answer ≡ loadAnswer words file → refusedLine (placeNumbers number place) ≡ printedFrom words file
 unfolding printedFrom
-printed-refusal words file answer number place told is = ap (λ (a : Load). textFor a (loadBook words file)) (sym told ∙ is)
+printed-refusal words file told is = ap (λ (a : Load). textFor a (loadBook words file)) (sym told ∙ is)
 
 -- so what is printed fits
 pub printed-fits : (words file : List ℕ) → length (printedFrom words file) ≤ sheetRoom
@@ -49,9 +50,9 @@ unfolding printedFrom
 printed-fits words file = fits-for (loadAnswer words file) (loadBook words file) (loaded-sound words file)
 
 -- and the buffer begins with it
-pub printed-front : (words file buffer out : List ℕ) (count : ℕ) → length buffer ≡ sheetRoom → count ≡ length (printedFrom words file)
+pub printed-front : (words file buffer : List ℕ) {out : List ℕ} {count : ℕ} → length buffer ≡ sheetRoom → count ≡ length (printedFrom words file)
     → out ≡ bufferWith (printedFrom words file) buffer → out ≡ printedFrom words file ++ drop count buffer
-printed-front words file buffer out count room counted is =
+printed-front words file buffer room counted is =
     is
     ∙ fitting-buffer (printedFrom words file) buffer (omega (arith, room, printed-fits words file))
     ∙ ap (λ (n : ℕ). printedFrom words file ++ drop n buffer) (sym counted)

@@ -1,11 +1,11 @@
 -- The waiting bytes after a store to the output buffer, and after two texts. Assumes nothing.
-use Prim.Native.Nat.{ℕ, _+_, _-_, _≤_, _<_}
+use Prim.Native.Nat.{ℕ, zero, suc, _+_, _≤_, _<_}
 use native.Mathlib.Numerals.{add-one}
 use native.Mathlib.Omega.{arith}
-use mathlib.Core.Path.{_≡_, refl}
-use mathlib.Core.List.{List, [], _∷_, _++_}
+use mathlib.Core.Path.{_≡_, refl, sym}
+use mathlib.Core.List.{List, [], _∷_, _++_, append-assoc}
 use borrow.Author.Tests.{lt-ltb, le-ltb}
-use lib.ListN.{length, getD, take, drop, set}
+use lib.ListN.{length, getD, take, drop, set, drop-of-length-le}
 use lib.Seq.{length-take-le, take-all, take-suc-set, drop-cons}
 use Rattle.report.specs.Text.{decimal, spaced, line}
 use Rattle.replay.specs.Text.{numbersLine, badRecord, badLine}
@@ -37,32 +37,35 @@ pub put-step : (bytes text : List ℕ) (i : ℕ) → i < length text
     → put (putByte bytes (getD text i 0)) (drop (i + 1) text) ≡ put bytes (drop i text)
 put-step bytes text i h = rw (add-one, drop-cons text i 0)
 
--- a turn of the loop that puts numbers, each behind a space
-pub spaced-step : (bytes numbers : List ℕ) (i : ℕ) → i < length numbers
-    → put (put (putByte bytes 32) (decimal (getD numbers i 0))) (spaced (drop (i + 1) numbers)) ≡ put bytes (spaced (drop i numbers))
-spaced-step bytes numbers i h = rw (add-one, drop-cons numbers i 0, put-append)
+-- what is left of a line once `i` of its numbers are put
+abbrev pub lineRest : List ℕ → ℕ → List ℕ
+lineRest numbers zero = numbersLine numbers
+lineRest numbers (suc i) = spaced (drop (suc i) numbers) ++ (10 ∷ [])
 
--- a line is its first number, the others and the newline
-pub put-line : (bytes : List ℕ) (first : ℕ) (rest : List ℕ)
-    → put bytes (line first rest) ≡ putByte (put (put bytes (decimal first)) (spaced rest)) 10
-unfolding line
-put-line bytes first rest = simp put-append
+-- a turn of the loop that puts them: the first number, and any other behind a space
+pub print-first : (bytes numbers : List ℕ) (i : ℕ) → i ≤ 0 → i < length numbers
+    → put (put bytes (decimal (getD numbers i 0))) (lineRest numbers (i + 1)) ≡ put bytes (lineRest numbers i)
+unfolding numbersLine line
+print-first bytes [] zero h more = let z : ⊥ = omega arith in absurd z
+print-first bytes (n ∷ ns) zero h more = sym (put-append bytes (decimal n) (spaced ns ++ (10 ∷ [])))
+print-first bytes numbers (suc i) h more = let z : ⊥ = omega arith in absurd z
 
--- a line of no numbers is the newline
-pub put-none : (bytes numbers : List ℕ) → length numbers ≡ 0 → putByte bytes 10 ≡ put bytes (numbersLine numbers)
+pub print-next : (bytes numbers : List ℕ) (i : ℕ) → 0 < i → i < length numbers
+    → put (put (putByte bytes 32) (decimal (getD numbers i 0))) (lineRest numbers (i + 1)) ≡ put bytes (lineRest numbers i)
+print-next bytes numbers zero h more = let z : ⊥ = omega arith in absurd z
+print-next bytes numbers (suc i) h more =
+    rw (add-one (suc i), drop-cons numbers (suc i) 0, append-assoc (decimal (getD numbers (suc i) 0)))
+    (sym (put-append (putByte bytes 32) (decimal (getD numbers (suc i) 0)) (spaced (drop (suc (suc i)) numbers) ++ (10 ∷ []))))
+
+-- and the newline
+pub print-end : (bytes numbers : List ℕ) (i : ℕ) → length numbers ≤ i → putByte bytes 10 ≡ put bytes (lineRest numbers i)
 unfolding numbersLine
-put-none bytes [] h = refl
-put-none bytes (n ∷ ns) h = let z : ⊥ = omega arith in absurd z
+print-end bytes [] zero h = refl
+print-end bytes (n ∷ ns) zero h = let z : ⊥ = omega arith in absurd z
+print-end bytes numbers (suc i) h = rw (drop-of-length-le numbers h)
 
--- a line of some numbers is the first and the others
-pub put-some : (bytes numbers : List ℕ) → (length numbers ≡ 0 → ⊥)
-    → put bytes (line (getD numbers 0 0) (take (length numbers - 1) (drop 1 numbers))) ≡ put bytes (numbersLine numbers)
-unfolding numbersLine
-put-some bytes [] h = absurd (h refl)
-put-some bytes (n ∷ ns) h = rw (take-all (length (n ∷ ns) - 1) ns (omega arith))
-
--- a bad record's line is its words, its number and the newline
+-- a bad record's line is its words and its number
 pub put-bad-line : (bytes : List ℕ) (number : ℕ)
-    → put bytes (badLine number) ≡ putByte (put (put bytes badRecord) (decimal number)) 10
+    → put bytes (badLine number) ≡ put (put bytes badRecord) (numbersLine (number ∷ []))
 unfolding badLine
-put-bad-line bytes number = simp put-append
+put-bad-line bytes number = put-append bytes badRecord (numbersLine (number ∷ []))

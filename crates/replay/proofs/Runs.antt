@@ -1,79 +1,83 @@
 -- What operations do, from the tests that the code makes. Assumes nothing.
-use Prim.Native.Nat.{ℕ, zero, suc, _+_, _≤_, _<_, min}
-use native.Mathlib.Nat.{zero-min, min-zero, suc-min-suc}
+use Prim.Native.Nat.{ℕ, zero, suc, _+_, _-_, _≤_, _<_, min}
+use native.Mathlib.Nat.{zero-min, min-zero, suc-min-suc, add-sub-cancel-left}
 use native.Mathlib.Numerals.{add-one}
 use native.Mathlib.Omega.{arith}
-use mathlib.Core.Path.{_≡_, refl, ap}
-use mathlib.Core.List.{List, [], _∷_, _++_}
-use borrow.Author.Tests.{lt-ltb, le-ltb, le-leb}
-use lib.ListN.{length, take, drop, set, replicate}
-use lib.Seq.{length-take-le, take-all, take-suc-set}
-use Rattle.replay.specs.declared.output.Output.{Output}
+use mathlib.Core.Bool.{Bool, true, false, cond}
+use mathlib.Core.Path.{_≡_, refl, ap, sym, _∙_}
+use mathlib.Core.List.{List, [], _∷_, _++_, append-nil}
+use borrow.Author.Tests.{le-leb}
+use lib.ListN.{length, take, drop, set, replicate, length-take, drop-of-length-le}
+use lib.Seq.{take-all, take-nil}
+use Rattle.apportion.specs.Places.{sumOf}
+use Rattle.apportion.specs.Dividing.{refusal, sharesAfter}
+use Rattle.replay.specs.declared.output.Answer.{Answer}
+use Rattle.replay.specs.declared.records.Words.{Words}
 use Rattle.replay.specs.declared.state.State.{State}
-use Rattle.replay.specs.Waiting.{waitingIn, put}
-use Rattle.replay.specs.Answers.{Loan, loanOf}
-use Rattle.replay.specs.Replay.{room, runOf, bad, loan, returned, listed, answer, dividedRun}
+use Rattle.replay.specs.Answers.{Answered, answeredOf, answered}
+use Rattle.replay.specs.Text.{numbersLine}
+use Rattle.replay.specs.Replay.{arrayLength, room, withCount, printed, returned, called, division, dividedRun}
+use Rattle.replay.specs.Stages.{stageOf, onRun}
+
+-- what is made of the one or the other
+pub cond-through : {A B : Type 0} (f : A → B) (test : Bool) (one other : A) → f (cond test one other) ≡ cond test (f one) (f other)
+cond-through f true one other = refl
+cond-through f false one other = refl
+
+-- the first of the first numbers
+pub take-first : (a b : ℕ) (xs : List ℕ) → take b (take a xs) ≡ take (min a b) xs
+take-first zero b xs = rw (zero-min, take-nil)
+take-first (suc a) zero xs = rw min-zero
+take-first (suc a) (suc b) [] = rw suc-min-suc
+take-first (suc a) (suc b) (x ∷ xs) = rw suc-min-suc (ap (λ (ys : List ℕ). x ∷ ys) (take-first a b xs))
 
 -- as many as are counted, within a list
-pub take-min : (n : ℕ) (xs : List ℕ) → take (min n (length xs)) xs ≡ take n xs
-take-min zero xs = rw zero-min
-take-min (suc n) [] = rw min-zero
-take-min (suc n) (x ∷ xs) = rw (suc-min-suc, take-min n xs)
+take-min : (n : ℕ) (xs : List ℕ) → take (min n (length xs)) xs ≡ take n xs
+take-min n xs = sym (take-first n (length xs) xs) ∙ take-all (length xs) (take n xs) (omega (arith, length-take n xs))
 
-drop-min : (n : ℕ) (xs : List ℕ) → drop (min n (length xs)) xs ≡ drop n xs
-drop-min zero xs = rw zero-min
-drop-min (suc n) [] = rw min-zero
-drop-min (suc n) (x ∷ xs) = rw (suc-min-suc, drop-min n xs)
+-- the one or two numbers of a reply, whatever stands behind them
+pub reply-numbers : (alone : Bool) (refused number : ℕ) (rest : List ℕ)
+    → (take (cond alone 1 2) (refused ∷ number ∷ rest) ≡ take (cond alone 1 2) (refused ∷ number ∷ [])) × (cond alone 1 2 ≤ 6)
+reply-numbers true refused number rest = (refl, omega arith)
+reply-numbers false refused number rest = (refl, omega arith)
 
--- operations 1 to 6: a call that gave this answer and left this book, and whose answer was printed
-pub left-is : {Answer : Type 0} {answer answer′ : Answer} {book book′ waiting′ : List ℕ} (text : Answer → List ℕ) (waiting : List ℕ)
-    → (answer ≡ answer′) × (book ≡ book′)
-    → waiting′ ≡ put waiting (text answer)
-    → _≡_ {A = Loan} (record { book = book; waiting = waiting′ }) (record { book = book′; waiting = put waiting (text answer′) })
-left-is text waiting made put-is = rw (put-is, made .0, made .1)
+-- operations 1 to 9 and 15: a call on the first `lent` words, or a load of the first `come` bytes, whose answer is printed
+pub call-returned : (operation lent come : ℕ) (words : Words) (memory file buffer book : List ℕ) (state : State) (answer : Answer)
+    → lent ≡ min (state .lent) arrayLength → come ≡ min (state .come) (length file)
+    → answeredOf answer book ≡ answered operation words (take lent memory) (take come file)
+    → onRun (printed (numbersLine (take (answer .count) (answer .numbers)))) (stageOf (book ++ drop lent memory) file buffer state)
+    ≡ onRun (called operation words (take (state .come) file)) (stageOf memory file buffer state)
+unfolding called
+call-returned operation lent come words memory file buffer book state answer lent-is come-is answer-is =
+    let on-lent = rw (lent-is, come-is, take-min) at answer-is in
+    rw lent-is (ap (λ (a : Answered). onRun (returned a) (stageOf memory file buffer state)) on-lent)
 
--- a call or a load, on the first `n` words of the array, as many as are lent
-pub call-returned : (call : Loan → Loan) (n : ℕ) (weights array buffer book buffer′ : List ℕ) (state : State) (after : Output)
-    → n ≡ min (state .lent) (length array)
-    → loanOf book buffer′ after ≡ call (loanOf (take n array) buffer (state .output))
-    → runOf weights (book ++ drop n array) buffer′
-    (record { count = state .count; lent = state .lent; good = state .good; output = after })
-    ≡ returned (call (loan (runOf weights array buffer state))) (runOf weights array buffer state)
-call-returned call n weights array buffer book buffer′ state after n-is answer-is =
-    let run = runOf weights array buffer state in
-    let on-lent = rw (n-is, take-min) at answer-is in
-    rw (n-is, drop-min) (ap (λ (loan : Loan). returned loan run) on-lent)
-
--- operation 11
-module _ (weights array buffer : List ℕ) (state : State) (weight : ℕ) (size : length weights ≡ room) where
-  pub list-good : state .count < length weights
-      → runOf (set weights (state .count) weight) array buffer
-      (record { count = state .count + 1; lent = state .lent; good = state .good; output = state .output })
-      ≡ listed weight (runOf weights array buffer state)
-  unfolding listed
-  list-good h =
-      let within : state .count ≤ length weights = omega arith in
-      let short : length (take (state .count) weights) < room = rw length-take-le (omega arith) in
-      rw (add-one, take-suc-set, lt-ltb _ _ short)
-
-  pub list-full : length weights ≤ state .count
-      → bad (runOf weights array buffer state) ≡ listed weight (runOf weights array buffer state)
-  unfolding listed
-  list-full h =
-      let full : room ≤ length (take (state .count) weights) = rw take-all (omega arith) in
-      rw (le-ltb _ _ full)
+-- operation 10: the numbers of a division, the refusal number in front of the shares
+pub division-line : (pool refused : ℕ) (weights line shares : List ℕ) → 0 < length line
+    → refused ≡ refusal pool (length weights) (length (take (length line - 1) (drop 1 line))) (sumOf weights)
+    → shares ≡ sharesAfter pool weights (take (length line - 1) (drop 1 line))
+    → set (take 1 line ++ (shares ++ drop (length line - 1) (drop 1 line))) 0 refused ≡ division pool weights (drop 1 line)
+division-line pool refused weights [] shares some refused-is shares-is = let z : ⊥ = omega arith in absurd z
+division-line pool refused weights (x ∷ xs) shares some refused-is shares-is =
+    let all : length xs ≤ length (x ∷ xs) - 1 = omega arith in
+    rw (drop-of-length-le xs all, append-nil, refused-is, shares-is, take-all (length (x ∷ xs) - 1) xs all)
 
 take-replicate : (n m x : ℕ) → n ≤ m → take n (replicate m x) ≡ replicate n x
 take-replicate zero m x h = refl
 take-replicate (suc n) zero x h = let z : ⊥ = omega arith in absurd z
 take-replicate (suc n) (suc m) x h = ap (λ (xs : List ℕ). x ∷ xs) (take-replicate n m x (omega arith))
 
--- operation 10: `n` of the weights, as many as are listed, are divided by
-pub divide-good : (pool size n : ℕ) (weights array buffer buffer′ : List ℕ) (state : State) (after : Output)
-    → size ≤ room → n ≡ min (state .count) (length weights)
-    → waitingIn buffer′ after ≡ put (waitingIn buffer (state .output)) (answer pool (take n weights) (take size (replicate room 7)))
-    → runOf weights array buffer′ (record { count = 0; lent = state .lent; good = state .good; output = after })
-    ≡ dividedRun pool size (runOf weights array buffer state)
+-- `n` of the weights, as many as are listed, are divided by
+pub divide-good : (pool size n : ℕ) (memory file buffer : List ℕ) (state : State) → size ≤ room → n ≡ min (state .count) room
+    → onRun
+    (printed
+    (numbersLine
+    (division pool
+    (take (arrayLength + n - arrayLength) (drop arrayLength memory))
+    (drop 1 (take (size + 1) (replicate (room + 1) 7))))))
+    (onRun (withCount 0) (stageOf memory file buffer state))
+    ≡ onRun (dividedRun pool size) (stageOf memory file buffer state)
 unfolding dividedRun
-divide-good pool size n weights array buffer buffer′ state after h n-is put-is =
-    rw (le-leb size room h, put-is, n-is, take-min, take-replicate size room 7 h)
+divide-good pool size n memory file buffer state h n-is =
+    let fits : size + 1 ≤ room + 1 = omega arith in
+    rw (le-leb size room h, take-replicate (size + 1) (room + 1) 7 fits, add-one, add-sub-cancel-left, n-is)

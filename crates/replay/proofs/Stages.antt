@@ -1,113 +1,77 @@
 -- What the records do, from the tests that the code makes. Assumes nothing.
 use Prim.Native.Nat.{ℕ, suc, _+_, _-_, _<_, _≤_, min}
 use native.Mathlib.Omega.{arith}
-use mathlib.Core.Bool.{Bool, true, false, cond}
+use mathlib.Core.Bool.{Bool, true, false, _&&_}
 use mathlib.Core.List.{List, [], _++_, append-assoc}
 use mathlib.Core.Path.{_≡_, refl, ap, sym, _∙_}
-use borrow.Author.Tests.{eq-eqb, ne-eqb, le-leb, lt-leb}
-use lib.Dec.{eqb, ltb, leb}
+use borrow.Author.Tests.{eq-eqb, ne-eqb, le-ltb, le-leb, lt-leb}
+use mir.Val.{boolByte}
+use lib.Dec.{ltb}
 use lib.ListN.{length, take, drop, length-drop}
 use lib.Seq.{length-take-le, take-length, take-append-add, take-append-seam}
-use Rattle.replay.specs.declared.files.Progress.{Progress}
-use Rattle.replay.specs.declared.output.Output.{Output}
+use Rattle.apportion.specs.Places.{oneIf}
+use Rattle.book_words.proofs.Booleans.{cond-same}
 use Rattle.replay.specs.declared.records.Words.{Words}
-use Rattle.replay.specs.Words.{wordsOf}
-use Rattle.replay.specs.Answers.{loanOf, loadCall}
-use Rattle.replay.specs.Replay.{Run, performed}
-use Rattle.replay.specs.Stages.{recordBytes, fileRoom, Stage, stageOf, withRun, withFile, counted, badStage, stoppedStage, finished, begun, taken, operated, handled, replayed, recordsIn}
-use Rattle.replay.proofs.Runs.{take-min, call-returned}
+use Rattle.replay.specs.declared.state.State.{State}
+use Rattle.replay.specs.Replay.{bad, changed, performed}
+use Rattle.replay.specs.Stages.{recordBytes, fileRoom, Stage, stageOf, onRun, withFile, counted, due, taken, operated, handled, replayed, recordsIn}
+use Rattle.replay.proofs.Runs.{cond-through, take-first}
 
--- a file of `come` bytes is loaded into the first `n` words of the array, as many as are lent
-pub load-finished : (come n : ℕ) (weights array file buffer book buffer′ : List ℕ) (progress : Progress) (after : Output)
-    → progress .missing ≤ 0 → come ≡ min (progress .come) (length file) → n ≡ min (progress .state .lent) (length array)
-    → loanOf book buffer′ after ≡ loadCall (take come file) (loanOf (take n array) buffer (progress .state .output))
-    → stageOf weights (book ++ drop n array) file buffer′
-    (record {
-      state = record { count = progress .state .count; lent = progress .state .lent; good = progress .state .good; output = after };
-      come = 0;
-      missing = 0;
-      passed = progress .passed;
-    })
-    ≡ finished (stageOf weights array file buffer progress)
-unfolding finished
-load-finished come n weights array file buffer book buffer′ progress after none come-is n-is gave =
-    rw (eq-eqb (progress .missing) 0 (omega arith))
-    (ap (λ (run : Run). record { run = run; file = []; missing = 0; passed = progress .passed })
-    (call-returned (loadCall (take (progress .come) file)) n weights array buffer book buffer′ (progress .state) after n-is (rw (come-is, take-min) at gave)))
+-- a bad record, after which no operation is due
+pub due-none : (words : Words) (stage : Stage) → due 0 words (onRun bad stage) ≡ onRun bad stage
+unfolding due performed changed
+due-none words stage = cond-same (ltb 0 (stage .missing)) (onRun bad stage)
 
--- a part of a list whose first numbers were copied from another
-pub copied-first : (src part rest post : List ℕ) → part ≡ take (length src) src ++ rest → part ++ post ≡ src ++ (rest ++ post)
-copied-first src part rest post is =
-    rw is (append-assoc (take (length src) src) rest post ∙ ap (λ (xs : List ℕ). xs ++ (rest ++ post)) (take-length src))
+-- the words of a record, where no byte of a file is missing: a file that is too long, a file that is to come, and any other
+module _ (words : Words) (stage : Stage) where
+  pub operate-long : stage .missing ≤ 0 → words .operation ≡ 15 → fileRoom < words .first → due 0 words stage ≡ operated words stage
+  unfolding due performed changed operated
+  operate-long none is long = rw (le-ltb 0 (stage .missing) none, eq-eqb (words .operation) 15 is, lt-leb (words .first) fileRoom long)
 
--- the bytes that have come, after a record more
-bytes-taken : (come count : ℕ) (file bytes rest : List ℕ) → come ≤ length file → count ≤ length bytes
-    → take (come + count) (take come file ++ (take count bytes ++ rest)) ≡ take come file ++ take count bytes
-bytes-taken come count file bytes rest in-file in-bytes =
-    ap (λ (k : ℕ). take (k + count) (take come file ++ (take count bytes ++ rest))) (sym (length-take-le come file in-file))
-    ∙ take-append-add (take come file) (take count bytes ++ rest) count
-    ∙ ap (λ (xs : List ℕ). take come file ++ xs)
-    (ap (λ (k : ℕ). take k (take count bytes ++ rest)) (sym (length-take-le count bytes in-bytes)) ∙ take-append-seam (take count bytes) rest)
+  pub operate-file : words .operation ≡ 15 → words .first ≤ fileRoom
+      → due (words .operation) words (withFile [] (words .first) stage) ≡ operated words stage
+  unfolding operated
+  operate-file is fits =
+      rw (eq-eqb (words .operation) 15 is, le-leb (words .first) fileRoom fits)
+      (ap (λ (operation : ℕ). due operation words (withFile [] (words .first) stage)) is)
 
-module _ (bytes file : List ℕ) (run : Run) (progress : Progress) (come count : ℕ) (size : length file ≡ fileRoom)
-    (come-is : come ≡ min (progress .come) (length file)) (count-is : count ≡ min (progress .missing) recordBytes) where
-  abbrev pub stage : Stage
-  stage = record { run = run; file = take (progress .come) file; missing = progress .missing; passed = progress .passed }
+  pub operate-other : (words .operation ≡ 15 → ⊥) → due (words .operation) words stage ≡ operated words stage
+  unfolding operated
+  operate-other ne = rw (ne-eqb (words .operation) 15 ne)
 
-  so-far : take come file ≡ take (progress .come) file
-  so-far = rw (come-is, take-min)
+-- a record of bytes of a file: `count` of them are copied behind the first `come` of the file
+module _ (memory buffer file bytes part rest post : List ℕ) (state : State) (come count : ℕ)
+    (count-is : count ≡ min (state .missing) recordBytes) (come-is : come ≡ min (state .come) (fileRoom - count))
+    (size : length file ≡ fileRoom) (enough : recordBytes ≤ length bytes)
+    (is : part ≡ take (length (take count bytes)) (take count bytes) ++ rest) where
+  bytes-copied : take (come + count) (take come file ++ (part ++ post)) ≡ take come file ++ take count bytes
+  bytes-copied =
+      let more = take count bytes ++ (rest ++ post) in
+      rw (is, take-length (take count bytes), append-assoc (take count bytes) rest post)
+      (ap (λ (k : ℕ). take (k + count) (take come file ++ more)) (sym (length-take-le come file (omega arith)))
+      ∙ take-append-add (take come file) more count
+      ∙ ap (λ (k : ℕ). take come file ++ take k more) (sym (length-take-le count bytes (omega arith)))
+      ∙ ap (λ (xs : List ℕ). take come file ++ xs) (take-append-seam (take count bytes) (rest ++ post)))
 
-  come-length : length (take (progress .come) file) ≡ come
-  come-length = ap length (sym so-far) ∙ length-take-le come file (omega arith)
+  pub take-done :
+      withFile (take (come + count) (take come file ++ (part ++ post))) (state .missing - count) (stageOf memory file buffer state)
+      ≡ taken bytes (stageOf memory file buffer state)
+  take-done = rw (bytes-copied, come-is, ← take-first (state .come) (fileRoom - count) file, count-is)
 
-  pub take-good : (rest : List ℕ) → count ≤ length file - come → recordBytes ≤ length bytes
-      → finished (withFile (take (come + count) (take come file ++ (take count bytes ++ rest))) (progress .missing - count) stage)
-      ≡ taken bytes stage
-  unfolding taken
-  take-good rest room enough =
-      let fits : length (take (progress .come) file) + min (progress .missing) recordBytes ≤ fileRoom = omega (arith, come-length, count-is, come-is, size, room) in
-      let within : count ≤ length bytes = omega arith in
-      rw (le-leb _ fileRoom fits, bytes-taken come count file bytes rest (omega arith) within, so-far, count-is)
-
-  pub take-full : length file - come < count → badStage stage ≡ taken bytes stage
-  unfolding taken
-  take-full full =
-      let over : fileRoom < length (take (progress .come) file) + min (progress .missing) recordBytes = omega (arith, come-length, count-is, come-is, size, full) in
-      rw (lt-leb _ fileRoom over)
-
--- an operation that is a load, and any other
-pub operate-load : (words : Words) (stage : Stage) → words .operation ≡ 15 → begun (words .first) stage ≡ operated words stage
-unfolding operated
-operate-load words stage e = rw (eq-eqb (words .operation) 15 e)
-
-pub operate-other : (words : Words) (stage : Stage) → (words .operation ≡ 15 → ⊥) → withRun (performed words (stage .run)) stage ≡ operated words stage
-unfolding operated
-operate-other words stage ne = rw (ne-eqb (words .operation) 15 ne)
+-- a Bool as a number: 1 is added for the record that did not come
+pub one-more : (test : Bool) → boolByte test ≡ oneIf test
+one-more true = refl
+one-more false = refl
 
 -- records are counted where they are read, and nowhere else
-either-passed : (test : Bool) (n : ℕ) (one other : Stage) → one .passed ≡ n → other .passed ≡ n → cond test one other .passed ≡ n
-either-passed true n one other of-one of-other = of-one
-either-passed false n one other of-one of-other = of-other
+handled-passed : (bytes : List ℕ) (stage : Stage) → handled bytes stage .passed ≡ stage .passed
+unfolding handled operated due
+handled-passed bytes stage = simp (cond-through (λ (s : Stage). s .passed), cond-same)
 
-finished-passed : (stage : Stage) → finished stage .passed ≡ stage .passed
-unfolding finished
-finished-passed stage = either-passed (eqb (stage .missing) 0) (stage .passed) _ stage refl refl
-
-pub handled-passed : (bytes : List ℕ) (stage : Stage) → handled bytes stage .passed ≡ stage .passed
-unfolding handled taken operated begun
-handled-passed bytes stage =
-    let n = stage .passed in
-    let words = wordsOf bytes in
-    let count = min (stage .missing) recordBytes in
-    let begins =
-    either-passed (leb (words .first) fileRoom) n (finished (withFile [] (words .first) stage)) (badStage stage)
-    (finished-passed (withFile [] (words .first) stage))
-    refl in
-    let more = withFile (stage .file ++ take count bytes) (stage .missing - count) stage in
-    let takes = either-passed (leb (length (stage .file) + count) fileRoom) n (finished more) (badStage stage) (finished-passed more) refl in
-    let does = either-passed (eqb (words .operation) 15) n (begun (words .first) stage) (withRun (performed words (stage .run)) stage) begins refl in
-    either-passed (ltb (length bytes) recordBytes) n (badStage stage) _ refl
-    (either-passed (ltb 0 (stage .missing)) n (taken bytes stage) (operated words stage) takes does)
+-- a record was bad, where what was written did not fail
+pub unfailed-bad : (good ok : Bool) → (good && ok) ≡ false → ok ≡ true → good ≡ false
+unfailed-bad true ok either written = sym written ∙ either
+unfailed-bad false ok either written = refl
 
 -- a turn of the loop over the records of a chunk, after which the stage is `next`
 module _ (bytes : List ℕ) (stage next : Stage) (more : 0 < length bytes) (done : next ≡ handled bytes (counted stage)) where
@@ -117,7 +81,7 @@ module _ (bytes : List ℕ) (stage next : Stage) (more : 0 < length bytes) (done
   pub replay-on : next .run .good ≡ true → replayed (drop recordBytes bytes) next ≡ replayed bytes stage
   replay-on good = rw (one-record, ← done, good)
 
-  pub replay-stop : next .run .good ≡ false → stoppedStage next ≡ replayed bytes stage
+  pub replay-stop : next .run .good ≡ false → next ≡ replayed bytes stage
   replay-stop ended = rw (one-record, ← done, ended)
 
   -- and one record more is counted

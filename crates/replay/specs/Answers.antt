@@ -1,115 +1,101 @@
--- Operations 1 to 9 and 15: what a call of the book or a load prints, and what it leaves of the lent words. Assumes nothing.
+-- Operations 1 to 9 and 15: what a call of the book or a load answers, and what it leaves of the lent words. Assumes nothing.
 use Prim.Native.Nat.{ℕ}
-use mathlib.Core.Bool.{cond}
+use mathlib.Core.Bool.{cond, _||_}
 use mathlib.Core.List.{List, [], _∷_}
 use lib.Dec.{eqb}
+use lib.ListN.{take}
 use Rattle.book_shares.specs.declared.intensities.Intensity.{Intensity}
-use Rattle.book_shares.specs.Closing.{closeRefusal, closeBook}
 use Rattle.book_shares.specs.Intensities.{intensityReply}
+use Rattle.book.specs.declared.arguments.EnrolArguments.{EnrolArguments}
+use Rattle.book.specs.declared.arguments.PostArguments.{PostArguments}
+use Rattle.book.specs.declared.arguments.QuoteArguments.{QuoteArguments}
 use Rattle.book.specs.declared.replies.Reply.{Reply}
 use Rattle.book.specs.declared.replies.Statement.{Statement}
-use Rattle.book.specs.Calls.{freshRefusal, freshBook, openReply, openBook, postReply, postBook, strikeRefusal, strikeBook, enrolReply, enrolBook, quoteReply, quoteBook}
+use Rattle.book.specs.Calls.{freshRefusal, freshBook}
 use Rattle.book.specs.Statements.{statementReply}
+use Rattle.conservation.specs.declared.Call.{Call}
+use Rattle.conservation.specs.declared.Call.the-variants.{Open, Post, Strike, Enrol, Quote, Close}
+use Rattle.conservation.specs.Runs.{step}
 use Rattle.book_file.specs.declared.answers.Numbers.{Numbers}
 use Rattle.book_file.specs.Loading.{loadNumbers, loadBook}
-use Rattle.replay.specs.declared.output.Output.{Output}
+use Rattle.replay.specs.declared.output.Answer.{Answer}
 use Rattle.replay.specs.declared.records.Words.{Words}
-use Rattle.report.specs.Text.{line}
-use Rattle.replay.specs.Waiting.{waitingIn, put}
 
--- what a call works on: the lent words, and the bytes that wait to be written
-pub record Loan : Type 0 where
+-- the arguments of a post, an enrolment and a quote, in document 01's order
+abbrev postOf : Words → PostArguments
+postOf words =
+    record {
+      category = words .first;
+      group = words .second;
+      quantity = words .third;
+      «operation_factor» = words .fourth;
+      «provision_factor» = words .fifth;
+    }
+
+abbrev enrolOf : Words → EnrolArguments
+enrolOf words =
+    record {
+      category = words .first;
+      chain = words .second;
+      code = words .third;
+      amount = words .fourth;
+      distance = words .fifth;
+    }
+
+abbrev quoteOf : Words → QuoteArguments
+quoteOf words =
+    record {
+      chain = words .first;
+      adjust = words .second;
+      mass = words .third;
+      distance = words .fourth;
+      «operation_intensity» = words .fifth;
+      «provision_intensity» = words .sixth;
+    }
+
+-- the call that the words of operations 2 to 7 ask for
+unfoldable pub callOf : Words → Call
+callOf words =
+    cond (eqb (words .operation) 2) (Open (words .first))
+    (cond (eqb (words .operation) 3) (Post (postOf words))
+    (cond (eqb (words .operation) 4) (Strike (words .first))
+    (cond (eqb (words .operation) 5) (Enrol (enrolOf words))
+    (cond (eqb (words .operation) 6) (Quote (quoteOf words))
+    (Close (words .first))))))
+
+-- the numbers of a reply, of which strike and close have the refusal number alone
+abbrev pub replyCount : ℕ → ℕ
+replyCount operation = cond (eqb operation 4 || eqb operation 7) 1 2
+
+abbrev pub replyNumbers : ℕ → Reply → List ℕ
+replyNumbers operation reply = take (replyCount operation) (reply .refusal ∷ reply .number ∷ [])
+
+-- those of a statement, of an intensity and of a load
+abbrev pub statementNumbers : Statement → List ℕ
+statementNumbers s = s .refusal ∷ s .elements ∷ s .waiting ∷ s .operation ∷ s .provision ∷ s .total ∷ []
+
+abbrev pub intensityNumbers : Intensity → List ℕ
+intensityNumbers i = i .refusal ∷ i .operation ∷ i .provision ∷ []
+
+abbrev pub fileNumbers : Numbers → List ℕ
+fileNumbers n = n .refusal ∷ n .table ∷ n .«record» ∷ []
+
+-- what an operation answers, the numbers of its line, and the lent words that it leaves
+pub record Answered : Type 0 where
+  pub numbers : List ℕ
   pub book : List ℕ
-  pub waiting : List ℕ
 
-abbrev pub loanOf : List ℕ → List ℕ → Output → Loan
-loanOf book buffer output = record { book = book; waiting = waitingIn buffer output }
+abbrev pub answering : List ℕ → List ℕ → Answered
+answering numbers book = record { numbers = numbers; book = book }
 
--- a call that prints a line, and leaves `after` of the lent words
-abbrev pub leaving : List ℕ → List ℕ → Loan → Loan
-leaving text after loan = record { book = after; waiting = put (loan .waiting) text }
+abbrev pub answeredOf : Answer → List ℕ → Answered
+answeredOf answer book = answering (take (answer .count) (answer .numbers)) book
 
--- the line of a refusal number
-abbrev pub refusalLine : ℕ → List ℕ
-refusalLine refusal = line refusal []
-
--- the line of a refusal number and a record's number
-abbrev pub replyLine : Reply → List ℕ
-replyLine reply = line (reply .refusal) (reply .number ∷ [])
-
--- the line of a refusal number and the two amounts of an intensity
-abbrev pub intensityLine : Intensity → List ℕ
-intensityLine reply = line (reply .refusal) (reply .operation ∷ reply .provision ∷ [])
-
--- the line of a refusal number and a statement
-abbrev pub statementLine : Statement → List ℕ
-statementLine reply =
-    line (reply .refusal) (reply .elements ∷ reply .waiting ∷ reply .operation ∷ reply .provision ∷ reply .total ∷ [])
-
--- the line of a load's refusal number, table and record
-abbrev pub loadLine : Numbers → List ℕ
-loadLine numbers = line (numbers .refusal) (numbers .table ∷ numbers .«record» ∷ [])
-
-abbrev pub freshCall : Loan → Loan
-freshCall loan = leaving (refusalLine (freshRefusal (loan .book))) (freshBook (loan .book)) loan
-
-abbrev pub openCall : Words → Loan → Loan
-openCall words loan =
-    leaving (replyLine (openReply (loan .book) (words .first))) (openBook (loan .book) (words .first)) loan
-
-abbrev pub postCall : Words → Loan → Loan
-postCall words loan =
-    leaving
-    (replyLine (postReply (loan .book) (words .first) (words .second) (words .third) (words .fourth) (words .fifth)))
-    (postBook (loan .book) (words .first) (words .second) (words .third) (words .fourth) (words .fifth))
-    loan
-
-abbrev pub strikeCall : Words → Loan → Loan
-strikeCall words loan =
-    leaving (refusalLine (strikeRefusal (loan .book) (words .first))) (strikeBook (loan .book) (words .first)) loan
-
-abbrev pub enrolCall : Words → Loan → Loan
-enrolCall words loan =
-    leaving
-    (replyLine (enrolReply (loan .book) (words .first) (words .second) (words .third) (words .fourth) (words .fifth)))
-    (enrolBook (loan .book) (words .first) (words .second) (words .third) (words .fourth) (words .fifth))
-    loan
-
-abbrev pub quoteCall : Words → Loan → Loan
-quoteCall words loan =
-    leaving
-    (replyLine (quoteReply (loan .book) (words .first) (words .second) (words .third) (words .fourth) (words .fifth) (words .sixth)))
-    (quoteBook (loan .book) (words .first) (words .second) (words .third) (words .fourth) (words .fifth) (words .sixth))
-    loan
-
-abbrev pub closeCall : Words → Loan → Loan
-closeCall words loan =
-    leaving (refusalLine (closeRefusal (loan .book) (words .first))) (closeBook (loan .book) (words .first)) loan
-
--- a statement leaves the words as they are
-abbrev pub statementCall : Words → Loan → Loan
-statementCall words loan =
-    leaving (statementLine (statementReply (loan .book) (words .first))) (loan .book) loan
-
--- so does an intensity
-abbrev pub intensityCall : Words → Loan → Loan
-intensityCall words loan =
-    leaving (intensityLine (intensityReply (loan .book) (words .first) (words .second))) (loan .book) loan
-
--- the call of an operation from 1 to 9
-unfoldable pub answered : Words → Loan → Loan
-answered words loan =
-    cond (eqb (words .operation) 1) (freshCall loan)
-    (cond (eqb (words .operation) 2) (openCall words loan)
-    (cond (eqb (words .operation) 3) (postCall words loan)
-    (cond (eqb (words .operation) 4) (strikeCall words loan)
-    (cond (eqb (words .operation) 5) (enrolCall words loan)
-    (cond (eqb (words .operation) 6) (quoteCall words loan)
-    (cond (eqb (words .operation) 7) (closeCall words loan)
-    (cond (eqb (words .operation) 8) (statementCall words loan)
-    (intensityCall words loan))))))))
-
--- a load of a file
-abbrev pub loadCall : List ℕ → Loan → Loan
-loadCall file loan =
-    leaving (loadLine (loadNumbers (loan .book) file)) (loadBook (loan .book) file) loan
+-- on the lent words, and 15 with the bytes of its file; a statement and an intensity leave the words as they are
+unfoldable pub answered : ℕ → Words → List ℕ → List ℕ → Answered
+answered operation words ws file =
+    cond (eqb operation 1) (answering (freshRefusal ws ∷ []) (freshBook ws))
+    (cond (eqb operation 8) (answering (statementNumbers (statementReply ws (words .first))) ws)
+    (cond (eqb operation 9) (answering (intensityNumbers (intensityReply ws (words .first) (words .second))) ws)
+    (cond (eqb operation 15) (answering (fileNumbers (loadNumbers ws file)) (loadBook ws file))
+    (answering (replyNumbers operation (step ws (callOf words) .reply)) (step ws (callOf words) .book)))))

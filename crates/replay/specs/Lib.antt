@@ -4,3 +4,4 @@ pub mod Waiting
 pub mod Answers
 pub mod Replay
 pub mod Stages
+pub mod Conserving

@@ -1,171 +1,136 @@
-// Operations 1 to 9: the calls of the book, on the lent words of its array.
+// Operations 1 to 9 and 15: the calls of the book and the load of a file, on the lent words of its array.
 ghost use mathlib.Core.Path.{_≡_};
-ghost use mathlib.Core.List.{List};
-ghost use Prim.Native.Nat.{ℕ};
-ghost use Rattle.replay.specs.Waiting.{waitingIn, put};
-ghost use Rattle.replay.specs.Answers.{loanOf, refusalLine, replyLine, answered, freshCall, openCall, postCall, strikeCall, enrolCall, quoteCall, closeCall, statementCall, intensityCall};
-ghost use Rattle.replay.specs.Replay.{runOf, called};
+ghost use Prim.Native.Nat.{_+_, _≤_};
+ghost use lib.ListN.{length, take};
+ghost use Rattle.replay.specs.Answers.{callOf, answeredOf, replyCount, answered};
+ghost use Rattle.replay.specs.Replay.{arrayLength, room, called};
+ghost use Rattle.replay.specs.Stages.{stageOf, onRun};
+use crate::memory;
 use crate::output;
+use crate::output::Answer;
 use crate::output::Buffer;
-use crate::output::Output;
 use crate::records::Words;
 use crate::state;
 use crate::state::State;
-use book::Reply;
+use book::EnrolArguments;
+use book::PostArguments;
+use book::QuoteArguments;
+use conservation::Call;
 
-// Makes the call that a record asks for, and prints its answer.
-pub fn call(words: Words, array: &mut [u64], buffer: &mut Buffer, state: State) -> State
-    ensures { λ r. ⌜ ((weights : List ℕ) → runOf weights (now (array .exit)) (now (buffer .exit)) r
-        ≡ called words (runOf weights (now (array .entry)) (now (buffer .entry)) state)) ⌝ }
+// Does what an operation asks of the book, and prints its answer.
+pub fn call(
+    operation: u64,
+    words: Words,
+    memory: &mut [u64],
+    file: &[u8],
+    buffer: &mut Buffer,
+    state: State,
+) -> State
+    requires { ⌜ length (now memory) ≡ arrayLength + room ⌝ }
+    ensures { λ r. ⌜ stageOf (now (memory .exit)) (now (file .entry)) (now (buffer .exit)) r
+        ≡ onRun (called operation words (take (state .come) (now (file .entry))))
+        (stageOf (now (memory .entry)) (now (file .entry)) (now (buffer .entry)) state) ⌝ }
 {
-    let lent = state::least(state.lent, array.len());
-    let output = state.output;
-    let mut after = state;
-    after.output = answer(words, &mut array[..lent], buffer, output);
-    after
+    let lent = state::least(state.lent, memory::LENGTH);
+    let come = state::least(state.come, file.len());
+    let answer = answer(operation, words, &mut memory[..lent], &file[..come]);
+    let numbers = answer.numbers;
+    let count = answer.count;
+    output::print(&numbers[..count], buffer, state)
 }
 
-// The same on the lent words.
-fn answer(words: Words, book: &mut [u64], buffer: &mut Buffer, output: Output) -> Output
-    ensures { λ r. ⌜ loanOf (now (book .exit)) (now (buffer .exit)) r
-        ≡ answered words (loanOf (now (book .entry)) (now (buffer .entry)) output) ⌝ }
+// What an operation answers on the lent words, 15 with the bytes of its file.
+fn answer(operation: u64, words: Words, book: &mut [u64], file: &[u8]) -> Answer
+    ensures { λ r. ⌜ answeredOf r (now (book .exit)) ≡ answered operation words (now (book .entry)) (now (file .entry)) ⌝ }
+    ensures { λ r. ⌜ r .count ≤ length (r .numbers) ⌝ }
 {
-    let operation = words.operation;
     match operation {
-        1 => fresh(book, buffer, output),
-        2 => open(words, book, buffer, output),
-        3 => post(words, book, buffer, output),
-        4 => strike(words, book, buffer, output),
-        5 => enrol(words, book, buffer, output),
-        6 => quote(words, book, buffer, output),
-        7 => close(words, book, buffer, output),
-        8 => statement(words, book, buffer, output),
-        _ => intensity(words, book, buffer, output),
+        1 => {
+            let refusal = book::fresh(book);
+            Answer {
+                numbers: [refusal, 0, 0, 0, 0, 0],
+                count: 1,
+            }
+        }
+        8 => {
+            let s = book::statement(book, words.first);
+            Answer {
+                numbers: [
+                    s.refusal,
+                    s.elements,
+                    s.waiting,
+                    s.operation,
+                    s.provision,
+                    s.total,
+                ],
+                count: 6,
+            }
+        }
+        9 => {
+            let i = book::intensity(book, words.first, words.second);
+            Answer {
+                numbers: [i.refusal, i.operation, i.provision, 0, 0, 0],
+                count: 3,
+            }
+        }
+        15 => {
+            let n = book_file::numbers_of(book_file::load(book, file));
+            Answer {
+                numbers: [n.refusal, n.table, n.record, 0, 0, 0],
+                count: 3,
+            }
+        }
+        _ => {
+            let reply = conservation::perform(book, call_of(words));
+            Answer {
+                numbers: [reply.refusal, reply.number, 0, 0, 0, 0],
+                count: reply_count(operation),
+            }
+        }
     }
 }
 
-fn fresh(book: &mut [u64], buffer: &mut Buffer, output: Output) -> Output
-    ensures { λ r. ⌜ loanOf (now (book .exit)) (now (buffer .exit)) r
-        ≡ freshCall (loanOf (now (book .entry)) (now (buffer .entry)) output) ⌝ }
+// How many numbers a call that writes answers: strike and close return the refusal number alone.
+fn reply_count(operation: u64) -> usize
+    ensures { λ r. ⌜ r ≡ replyCount operation ⌝ }
 {
-    let refusal = book::fresh(book);
-    put_refusal(refusal, buffer, output)
+    if (operation == 4) | (operation == 7) {
+        1
+    } else {
+        2
+    }
 }
 
-fn open(words: Words, book: &mut [u64], buffer: &mut Buffer, output: Output) -> Output
-    ensures { λ r. ⌜ loanOf (now (book .exit)) (now (buffer .exit)) r
-        ≡ openCall words (loanOf (now (book .entry)) (now (buffer .entry)) output) ⌝ }
+// The call that the words of operations 2 to 7 ask for.
+fn call_of(words: Words) -> Call
+    ensures { λ r. ⌜ r ≡ callOf words ⌝ }
 {
-    let reply = book::open(book, words.first);
-    put_reply(reply, buffer, output)
-}
-
-fn post(words: Words, book: &mut [u64], buffer: &mut Buffer, output: Output) -> Output
-    ensures { λ r. ⌜ loanOf (now (book .exit)) (now (buffer .exit)) r
-        ≡ postCall words (loanOf (now (book .entry)) (now (buffer .entry)) output) ⌝ }
-{
-    let reply = book::post(
-        book,
-        words.first,
-        words.second,
-        words.third,
-        words.fourth,
-        words.fifth,
-    );
-    put_reply(reply, buffer, output)
-}
-
-fn strike(words: Words, book: &mut [u64], buffer: &mut Buffer, output: Output) -> Output
-    ensures { λ r. ⌜ loanOf (now (book .exit)) (now (buffer .exit)) r
-        ≡ strikeCall words (loanOf (now (book .entry)) (now (buffer .entry)) output) ⌝ }
-{
-    let refusal = book::strike(book, words.first);
-    put_refusal(refusal, buffer, output)
-}
-
-fn enrol(words: Words, book: &mut [u64], buffer: &mut Buffer, output: Output) -> Output
-    ensures { λ r. ⌜ loanOf (now (book .exit)) (now (buffer .exit)) r
-        ≡ enrolCall words (loanOf (now (book .entry)) (now (buffer .entry)) output) ⌝ }
-{
-    let reply = book::enrol(
-        book,
-        words.first,
-        words.second,
-        words.third,
-        words.fourth,
-        words.fifth,
-    );
-    put_reply(reply, buffer, output)
-}
-
-fn quote(words: Words, book: &mut [u64], buffer: &mut Buffer, output: Output) -> Output
-    ensures { λ r. ⌜ loanOf (now (book .exit)) (now (buffer .exit)) r
-        ≡ quoteCall words (loanOf (now (book .entry)) (now (buffer .entry)) output) ⌝ }
-{
-    let reply = book::quote(
-        book,
-        words.first,
-        words.second,
-        words.third,
-        words.fourth,
-        words.fifth,
-        words.sixth,
-    );
-    put_reply(reply, buffer, output)
-}
-
-fn close(words: Words, book: &mut [u64], buffer: &mut Buffer, output: Output) -> Output
-    ensures { λ r. ⌜ loanOf (now (book .exit)) (now (buffer .exit)) r
-        ≡ closeCall words (loanOf (now (book .entry)) (now (buffer .entry)) output) ⌝ }
-{
-    let refusal = book::close(book, words.first);
-    put_refusal(refusal, buffer, output)
-}
-
-fn statement(words: Words, book: &mut [u64], buffer: &mut Buffer, output: Output) -> Output
-    ensures { λ r. ⌜ loanOf (now (book .exit)) (now (buffer .exit)) r
-        ≡ statementCall words (loanOf (now (book .entry)) (now (buffer .entry)) output) ⌝ }
-{
-    let reply = book::statement(book, words.first);
-    output::put_line(
-        reply.refusal,
-        &[
-            reply.elements,
-            reply.waiting,
-            reply.operation,
-            reply.provision,
-            reply.total,
-        ],
-        buffer,
-        output,
-    )
-}
-
-fn intensity(words: Words, book: &mut [u64], buffer: &mut Buffer, output: Output) -> Output
-    ensures { λ r. ⌜ loanOf (now (book .exit)) (now (buffer .exit)) r
-        ≡ intensityCall words (loanOf (now (book .entry)) (now (buffer .entry)) output) ⌝ }
-{
-    let reply = book::intensity(book, words.first, words.second);
-    output::put_line(
-        reply.refusal,
-        &[reply.operation, reply.provision],
-        buffer,
-        output,
-    )
-}
-
-// Puts the line of a reply: the refusal number and the number.
-fn put_reply(reply: Reply, buffer: &mut Buffer, output: Output) -> Output
-    ensures { λ r. ⌜ waitingIn (now (buffer .exit)) r
-        ≡ put (waitingIn (now (buffer .entry)) output) (replyLine reply) ⌝ }
-{
-    output::put_line(reply.refusal, &[reply.number], buffer, output)
-}
-
-// Puts the line of a refusal number.
-fn put_refusal(refusal: u64, buffer: &mut Buffer, output: Output) -> Output
-    ensures { λ r. ⌜ waitingIn (now (buffer .exit)) r
-        ≡ put (waitingIn (now (buffer .entry)) output) (refusalLine refusal) ⌝ }
-{
-    output::put_line(refusal, &[], buffer, output)
+    let operation = words.operation;
+    match operation {
+        2 => Call::Open(words.first),
+        3 => Call::Post(PostArguments {
+            category: words.first,
+            group: words.second,
+            quantity: words.third,
+            operation_factor: words.fourth,
+            provision_factor: words.fifth,
+        }),
+        4 => Call::Strike(words.first),
+        5 => Call::Enrol(EnrolArguments {
+            category: words.first,
+            chain: words.second,
+            code: words.third,
+            amount: words.fourth,
+            distance: words.fifth,
+        }),
+        6 => Call::Quote(QuoteArguments {
+            chain: words.first,
+            adjust: words.second,
+            mass: words.third,
+            distance: words.fourth,
+            operation_intensity: words.fifth,
+            provision_intensity: words.sixth,
+        }),
+        _ => Call::Close(words.first),
+    }
 }

@@ -3,10 +3,9 @@
 // A call is a record of 64 bytes: eight words, the operation and seven arguments. After operation 15 the records
 // are the bytes of a file, the last padded to a whole record. The line of a bad record, `bad record N`, is the last;
 // so is that of a record that does not come, where the input ends within a file.
-mod array;
 mod calls;
-mod dividing;
 mod files;
+mod memory;
 mod operations;
 mod output;
 mod records;
@@ -17,44 +16,44 @@ ghost use mathlib.Core.Bool.{true, cond, _&&_};
 ghost use Prim.Native.Nat.{_+_, _-_, _≤_, _<_, _^_};
 ghost use lib.ListN.{length};
 ghost use Rattle.replay.specs.Stages.{stageOf, replayed};
-use array::Array;
-use dividing::Weights;
 use files::File;
-use files::Progress;
 use libc::STDIN_FILENO;
+use memory::Memory;
 use output::Buffer;
 use state::State;
 
 // Does what the records of a chunk ask, up to a bad one or a write that failed.
 fn run(
     chunk: &[u8],
-    weights: &mut Weights,
-    array: &mut Array,
+    memory: &mut Memory,
     file: &mut File,
     buffer: &mut Buffer,
-    start: Progress,
-) -> Progress
-    requires { ⌜ start .passed + length (now chunk) < 2 ^ 64 ⌝ }
-    ensures { λ r. ⌜ (r .state .output .ok ≡ true
-        → stageOf (now (weights .exit)) (now (array .exit)) (now (file .exit)) (now (buffer .exit)) r
-        ≡ replayed (now (chunk .entry))
-        (stageOf (now (weights .entry)) (now (array .entry)) (now (file .entry)) (now (buffer .entry)) start)) ⌝ }
-    ensures { λ r. ⌜ r .passed ≤ start .passed + length (now (chunk .entry)) ⌝ }
+    mut state: State,
+) -> State
+    requires { ⌜ state .passed + length (now chunk) < 2 ^ 64 ⌝ }
+    ensures { λ r. ⌜ (r .output .ok ≡ true → stageOf (now (memory .exit)) (now (file .exit)) (now (buffer .exit)) r
+        ≡ replayed (now (chunk .entry)) (stageOf (now (memory .entry)) (now (file .entry)) (now (buffer .entry)) state)) ⌝ }
+    ensures { λ r. ⌜ r .passed ≤ state .passed + length (now (chunk .entry)) ⌝ }
 {
-    let mut progress = start;
     let mut at = 0;
     while at < chunk.len() {
-        progress.passed = progress.passed + 1;
-        progress = operations::handle(&chunk[at..], weights, array, file, buffer, progress);
-        if !progress.state.good {
-            return files::stop(buffer, progress);
+        state.passed = state.passed + 1;
+        let received = operations::receive(&chunk[at..], file, state);
+        state = operations::perform(
+            received.operation,
+            received.words,
+            memory,
+            file,
+            buffer,
+            received.state,
+        );
+        if state.good & state.output.ok {
+            at += records::SIZE;
+        } else {
+            return state;
         }
-        if !progress.state.output.ok {
-            return progress;
-        }
-        at += records::SIZE;
     }
-    progress
+    state
 }
 
 // The turns that are left: none after the last chunk, a bad record or a write that failed.
@@ -74,23 +73,15 @@ fn turns_left(turns: u64, whole: bool, state: State) -> u64
 fn main() {
     let mut chunk = io::large_buffer();
     let mut buffer = io::large_buffer();
-    let mut weights = [0u64; dividing::ROOM];
-    let mut array = [0u64; array::LENGTH];
+    let mut memory = [0u64; memory::LENGTH + memory::ROOM];
     let mut file = [0u8; files::ROOM];
-    let mut progress = files::first();
+    let mut state = state::first();
     let mut turns = u64::MAX / 65536;
     while turns > 0 {
         let got = io::read_full(STDIN_FILENO, &mut chunk);
-        progress = run(
-            &chunk[..got],
-            &mut weights,
-            &mut array,
-            &mut file,
-            &mut buffer,
-            progress,
-        );
-        turns = turns_left(turns, got == chunk.len(), progress.state);
+        state = run(&chunk[..got], &mut memory, &mut file, &mut buffer, state);
+        turns = turns_left(turns, got == chunk.len(), state);
     }
-    let state = files::end(&mut buffer, progress);
-    output::flush(&buffer, state.output);
+    let last = output::end(&mut buffer, state);
+    output::flush(&buffer, last.output);
 }

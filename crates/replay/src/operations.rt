@@ -1,71 +1,78 @@
-// What a record does, by its operation.
+// What a record does: it is taken in, and then the operation that is due is performed.
 ghost use mathlib.Core.Path.{_≡_};
-ghost use Rattle.replay.specs.Replay.{runOf, performed};
-ghost use Rattle.replay.specs.Stages.{stageOf, handled};
-use crate::array;
-use crate::array::Array;
+ghost use mathlib.Core.List.{List};
+ghost use Prim.Native.Nat.{ℕ};
+ghost use lib.ListN.{length};
+ghost use Rattle.replay.specs.Stages.{fileRoom, stageOf, due, handled};
 use crate::calls;
-use crate::dividing;
-use crate::dividing::Weights;
 use crate::files;
 use crate::files::File;
-use crate::files::Progress;
+use crate::memory;
+use crate::memory::Memory;
 use crate::output::Buffer;
 use crate::records;
 use crate::records::Words;
 use crate::state;
 use crate::state::State;
 
-// Does what the record at the start of the bytes asks. One that is cut short is bad.
-pub fn handle(
-    bytes: &[u8],
-    weights: &mut Weights,
-    array: &mut Array,
-    file: &mut File,
-    buffer: &mut Buffer,
-    progress: Progress,
-) -> Progress
-    ensures { λ r. ⌜ stageOf (now (weights .exit)) (now (array .exit)) (now (file .exit)) (now (buffer .exit)) r
-        ≡ handled (now (bytes .entry))
-        (stageOf (now (weights .entry)) (now (array .entry)) (now (file .entry)) (now (buffer .entry)) progress) ⌝ }
-{
-    if bytes.len() < records::SIZE {
-        return files::bad(progress);
-    }
-    if progress.missing > 0 {
-        return files::take(bytes, array, file, buffer, progress);
-    }
-    let words = records::read(bytes);
-    if words.operation == 15 {
-        return files::begin(words.first, array, file, buffer, progress);
-    }
-    let state = progress.state;
-    let mut after = progress;
-    after.state = perform(words, weights, array, buffer, state);
-    after
+// What a record leaves to do: its operation, once no byte of its file is missing. Operation 0 is bad.
+pub struct Received {
+    pub operation: u64,
+    pub words: Words,
+    pub state: State,
 }
 
-// Does what the words of a record ask.
-fn perform(
+// Takes in the record at the start of the bytes. One that is cut short is bad.
+pub fn receive(bytes: &[u8], file: &mut [u8], mut state: State) -> Received
+    requires { ⌜ length (now file) ≡ fileRoom ⌝ }
+    ensures { λ r. ⌜ ((memory buffer : List ℕ) → due (r .operation) (r .words) (stageOf memory (now (file .exit)) buffer (r .state))
+        ≡ handled (now (bytes .entry)) (stageOf memory (now (file .entry)) buffer state)) ⌝ }
+{
+    let words = records::read(bytes);
+    let mut operation = words.operation;
+    if bytes.len() < records::SIZE {
+        operation = 0;
+        state = state::bad(state);
+    } else if state.missing > 0 {
+        operation = 15;
+        state = files::take(bytes, file, state);
+    } else if operation == 15 {
+        let length = words.first as usize;
+        if length > files::ROOM {
+            operation = 0;
+        } else {
+            state.come = 0;
+            state.missing = length;
+        }
+    }
+    Received {
+        operation,
+        words,
+        state,
+    }
+}
+
+// Performs the operation that is due.
+pub fn perform(
+    operation: u64,
     words: Words,
-    weights: &mut Weights,
-    array: &mut Array,
+    memory: &mut Memory,
+    file: &File,
     buffer: &mut Buffer,
     state: State,
 ) -> State
-    ensures { λ r. ⌜ runOf (now (weights .exit)) (now (array .exit)) (now (buffer .exit)) r
-        ≡ performed words (runOf (now (weights .entry)) (now (array .entry)) (now (buffer .entry)) state) ⌝ }
+    ensures { λ r. ⌜ stageOf (now (memory .exit)) (now (file .entry)) (now (buffer .exit)) r
+        ≡ due operation words (stageOf (now (memory .entry)) (now (file .entry)) (now (buffer .entry)) state) ⌝ }
 {
-    let operation = words.operation;
-    if (1 <= operation) & (operation <= 9) {
-        return calls::call(words, array, buffer, state);
+    if state.missing > 0 {
+        return state;
+    }
+    if (1 <= operation) & (operation <= 9) | (operation == 15) {
+        return calls::call(operation, words, memory, file, buffer, state);
     }
     match operation {
-        10 => dividing::divide(words.first, words.second, weights, buffer, state),
-        11 => dividing::list_weight(words.first, weights, state),
-        12 => array::poke(words.first, words.second, array, state),
-        13 => array::lend(words.first, state),
-        14 => array::dump(words.first, words.second, array, buffer, state),
-        _ => state::bad(state),
+        10 => memory::divide(words.first, words.second, memory, buffer, state),
+        14 => memory::dump(words.first, words.second, memory, buffer, state),
+        _ => memory::change(operation, words, memory, state),
     }
 }

@@ -1,9 +1,15 @@
 // The output buffer: bytes that wait to be written to standard output.
 ghost use mathlib.Core.Path.{_≡_};
+ghost use mathlib.Core.List.{List};
+ghost use Prim.Native.Nat.{ℕ, _+_, _<_, _^_};
 ghost use lib.ListN.{length};
-ghost use Rattle.report.specs.Text.{decimal, line};
-ghost use Rattle.replay.specs.Text.{numbersLine, badLine};
+ghost use Rattle.report.specs.Text.{decimal};
+ghost use Rattle.replay.specs.Text.{numbersLine};
 ghost use Rattle.replay.specs.Waiting.{Flushed, waitingIn, putByte, put};
+ghost use Rattle.replay.specs.Replay.{runOf, printed};
+ghost use Rattle.replay.specs.Stages.{stageOf, onRun, ended};
+use crate::state;
+use crate::state::State;
 use libc::STDOUT_FILENO;
 
 pub type Buffer = [u8; 65_536];
@@ -13,6 +19,12 @@ pub struct Output {
     pub at: usize,
     // False after a write that failed: nothing is written from then on.
     pub ok: bool,
+}
+
+// The numbers that an operation answers: the first `count` of these.
+pub struct Answer {
+    pub numbers: [u64; 6],
+    pub count: usize,
 }
 
 // Writes the waiting bytes.
@@ -29,24 +41,13 @@ fn write_waiting(buffer: &[u8], output: Output) -> Output
     if !output.ok {
         return Output { at: 0, ok: false };
     }
-    let at = output.at;
-    let ok = if at < buffer.len() {
-        io::write_all(STDOUT_FILENO, &buffer[..at])
-    } else {
-        io::write_all(STDOUT_FILENO, buffer)
-    };
+    let at = state::least(output.at, buffer.len());
+    let ok = io::write_all(STDOUT_FILENO, &buffer[..at]);
     Output { at: 0, ok }
 }
 
 // Puts a byte. Where the buffer is full, what waits is written first.
-pub fn put_byte(byte: u8, buffer: &mut Buffer, output: Output) -> Output
-    ensures { λ r. ⌜ waitingIn (now (buffer .exit)) r ≡ putByte (waitingIn (now (buffer .entry)) output) byte ⌝ }
-{
-    store(byte, buffer, output)
-}
-
-// The same on the buffer as a slice, whose length a proof can speak of.
-fn store(byte: u8, buffer: &mut [u8], output: Output) -> Output
+fn put_byte(byte: u8, buffer: &mut [u8], output: Output) -> Output
     requires { ⌜ length (now buffer) ≡ 65536 ⌝ }
     ensures { λ r. ⌜ waitingIn (now (buffer .exit)) r ≡ putByte (waitingIn (now (buffer .entry)) output) byte ⌝ }
 {
@@ -67,7 +68,7 @@ fn store(byte: u8, buffer: &mut [u8], output: Output) -> Output
 }
 
 // Puts bytes.
-pub fn put_bytes(text: &[u8], buffer: &mut Buffer, output: Output) -> Output
+fn put_bytes(text: &[u8], buffer: &mut Buffer, output: Output) -> Output
     ensures { λ r. ⌜ waitingIn (now (buffer .exit)) r ≡ put (waitingIn (now (buffer .entry)) output) (now (text .entry)) ⌝ }
 {
     let mut current = output;
@@ -80,7 +81,7 @@ pub fn put_bytes(text: &[u8], buffer: &mut Buffer, output: Output) -> Output
 }
 
 // Puts a number in decimal.
-pub fn put_number(number: u64, buffer: &mut Buffer, output: Output) -> Output
+fn put_number(number: u64, buffer: &mut Buffer, output: Output) -> Output
     ensures { λ r. ⌜ waitingIn (now (buffer .exit)) r ≡ put (waitingIn (now (buffer .entry)) output) (decimal number) ⌝ }
 {
     let mut digits = [0u8; 20];
@@ -88,37 +89,36 @@ pub fn put_number(number: u64, buffer: &mut Buffer, output: Output) -> Output
     put_bytes(&digits[..count], buffer, output)
 }
 
-// Puts a line of numbers, with single spaces between.
-pub fn put_line(first: u64, rest: &[u64], buffer: &mut Buffer, output: Output) -> Output
-    ensures { λ r. ⌜ waitingIn (now (buffer .exit)) r
-        ≡ put (waitingIn (now (buffer .entry)) output) (line first (now (rest .entry))) ⌝ }
+// Prints an answer: a line of its numbers, with single spaces between.
+pub fn print(numbers: &[u64], buffer: &mut Buffer, mut state: State) -> State
+    ensures { λ r. ⌜ ((memory file : List ℕ) → stageOf memory file (now (buffer .exit)) r
+        ≡ onRun (printed (numbersLine (now (numbers .entry)))) (stageOf memory file (now (buffer .entry)) state)) ⌝ }
 {
-    let mut current = put_number(first, buffer, output);
+    let mut current = state.output;
     let mut i = 0;
-    while i < rest.len() {
-        current = put_byte(b' ', buffer, current);
-        current = put_number(rest[i], buffer, current);
+    while i < numbers.len() {
+        if i > 0 {
+            current = put_byte(b' ', buffer, current);
+        }
+        current = put_number(numbers[i], buffer, current);
         i += 1;
     }
-    put_byte(b'\n', buffer, current)
+    state.output = put_byte(b'\n', buffer, current);
+    state
 }
 
-// Puts a line of numbers, of which there may be none.
-pub fn put_numbers(numbers: &[u64], buffer: &mut Buffer, output: Output) -> Output
-    ensures { λ r. ⌜ waitingIn (now (buffer .exit)) r
-        ≡ put (waitingIn (now (buffer .entry)) output) (numbersLine (now (numbers .entry))) ⌝ }
+// The input ends: a bad record has its line, and where a file is still to come, so has the record that did not come, which is one
+// more than were handled.
+pub fn end(buffer: &mut Buffer, mut state: State) -> State
+    requires { ⌜ state .passed + 1 < 2 ^ 64 ⌝ }
+    ensures { λ r. ⌜ ((memory file : List ℕ) → runOf memory (now (buffer .exit)) r
+        ≡ ended (stageOf memory file (now (buffer .entry)) state)) ⌝ }
 {
-    if numbers.len() == 0 {
-        return put_byte(b'\n', buffer, output);
+    if state.good & (state.missing == 0) {
+        return state;
     }
-    put_line(numbers[0], &numbers[1..], buffer, output)
-}
-
-// Puts the line of a bad record.
-pub fn put_bad_record(number: u64, buffer: &mut Buffer, output: Output) -> Output
-    ensures { λ r. ⌜ waitingIn (now (buffer .exit)) r ≡ put (waitingIn (now (buffer .entry)) output) (badLine number) ⌝ }
-{
-    let words = put_bytes(b"bad record ", buffer, output);
-    let numbered = put_number(number, buffer, words);
-    put_byte(b'\n', buffer, numbered)
+    let output = state.output;
+    state.output = put_bytes(b"bad record ", buffer, output);
+    let number = state.passed + state.good as u64;
+    print(&[number], buffer, state)
 }

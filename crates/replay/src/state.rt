@@ -1,13 +1,12 @@
-// What is kept from record to record, beside the listed weights, the book's array and the waiting bytes.
+// What is kept from record to record, beside the memory, the bytes of a file and those that wait to be written.
 ghost use mathlib.Core.Path.{_≡_};
 ghost use mathlib.Core.Bool.{true};
 ghost use mathlib.Core.List.{List};
-ghost use Prim.Native.Nat.{ℕ, min};
+ghost use Prim.Native.Nat.{ℕ, _+_, min};
 ghost use lib.ListN.{replicate};
-ghost use Rattle.replay.specs.Replay.{arrayLength, runOf, started, stopped, bad as badRun};
-use crate::array;
-use crate::output;
-use crate::output::Buffer;
+ghost use Rattle.replay.specs.Replay.{arrayLength, room, bad as badRun};
+ghost use Rattle.replay.specs.Stages.{stageOf, firstStage, onRun};
+use crate::memory;
 use crate::output::Output;
 
 pub struct State {
@@ -15,45 +14,40 @@ pub struct State {
     pub count: usize,
     // How many words of the array are lent to the book's calls.
     pub lent: usize,
+    // How many bytes of a file have come, and how many are to come.
+    pub come: usize,
+    pub missing: usize,
+    // How many records have been handled.
+    pub passed: u64,
     // False after a bad record.
     pub good: bool,
     // Where the waiting bytes end.
     pub output: Output,
 }
 
-// Before the first record: no weight is listed, the whole array is lent, and no byte waits.
+// Before the first record: no weight is listed, the whole array is lent, no file is on its way and no byte waits.
 pub fn first() -> State
-    ensures { λ r. ⌜ ((weights buffer : List ℕ) → runOf weights (replicate arrayLength 0) buffer r ≡ started) ⌝ }
+    ensures { λ r. ⌜ ((file buffer : List ℕ) → stageOf (replicate (arrayLength + room) 0) file buffer r ≡ firstStage) ⌝ }
     ensures { λ r. ⌜ r .output .ok ≡ true ⌝ }
 {
     let output = Output { at: 0, ok: true };
     State {
         count: 0,
-        lent: array::LENGTH,
+        lent: memory::LENGTH,
+        come: 0,
+        missing: 0,
+        passed: 0,
         good: true,
         output,
     }
 }
 
 // The record is bad.
-pub fn bad(state: State) -> State
-    ensures { λ r. ⌜ ((weights array buffer : List ℕ) → runOf weights array buffer r ≡ badRun (runOf weights array buffer state)) ⌝ }
+pub fn bad(mut state: State) -> State
+    ensures { λ r. ⌜ ((memory file buffer : List ℕ) → stageOf memory file buffer r ≡ onRun badRun (stageOf memory file buffer state)) ⌝ }
 {
-    let mut after = state;
-    after.good = false;
-    after
-}
-
-// Prints the line of a bad record.
-pub fn stop(number: u64, buffer: &mut Buffer, state: State) -> State
-    ensures { λ r. ⌜ ((weights array : List ℕ) → runOf weights array (now (buffer .exit)) r
-        ≡ stopped number (runOf weights array (now (buffer .entry)) state)) ⌝ }
-{
-    let output = state.output;
-    let mut after = state;
-    after.good = false;
-    after.output = output::put_bad_record(number, buffer, output);
-    after
+    state.good = false;
+    state
 }
 
 // A count that the state keeps, within an array of this length.

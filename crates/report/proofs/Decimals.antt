@@ -47,13 +47,16 @@ count-some n fits =
     (λ (large : 10 ≤ n). omega (arith, count-more n fits large))
     (below-or-not n 10)
 
--- so a number of more than one digit is at least 10, and one of one digit is below
-pub one-or-more : (n left : ℕ) → n < 2 ^ 64 → length (decimal n) ≡ suc left → ((left ≡ 0) × (n < 10)) ⊎ ((0 < left) × (10 ≤ n))
-one-or-more n left fits e = go (below-or-not n 10)
-  where
-    go : (n < 10) ⊎ (10 ≤ n) → ((left ≡ 0) × (n < 10)) ⊎ ((0 < left) × (10 ≤ n))
-    go (inl small) = inl (omega (arith, count-one n small), small)
-    go (inr large) = inr (omega (arith, count-more n fits large, count-some (n / 10) (omega arith)), large)
+-- so a number of one digit is below 10, and one of more is not
+one-small : (n : ℕ) → n < 2 ^ 64 → length (decimal n) ≡ 1 → n < 10
+one-small n fits e =
+    ⊎-elim
+    (λ (small : n < 10). small)
+    (λ (large : 10 ≤ n). omega (arith, count-more n fits large, count-some (n / 10) (omega arith)))
+    (below-or-not n 10)
+
+more-large : (n left : ℕ) → length (decimal n) ≡ suc (suc left) → 10 ≤ n
+more-large n left e = ⊎-elim (λ (small : n < 10). omega (arith, count-one n small)) (λ (large : 10 ≤ n). large) (below-or-not n 10)
 
 -- a number below 10^k has at most k digits
 within-most : (most k n : ℕ) → n < 10 ^ suc k → length (decimalWithin most n) ≤ suc k
@@ -77,7 +80,8 @@ fuel-most : (most n : ℕ) → length (decimalWithin most n) ≤ most
 fuel-most zero n = omega arith
 fuel-most (suc most) n = go (ltb n 10) (fuel-most most (n / 10))
   where
-    go : (t : Bool) → length (decimalWithin most (n / 10)) ≤ most → length (cond t (digit n ∷ []) (decimalWithin most (n / 10) ++ (digit (n % 10) ∷ []))) ≤ suc most
+    go : (t : Bool) → length (decimalWithin most (n / 10)) ≤ most
+        → length (cond t (digit n ∷ []) (decimalWithin most (n / 10) ++ (digit (n % 10) ∷ []))) ≤ suc most
     go true shorter = omega arith
     go false shorter = rw length-append (omega (arith, shorter))
 
@@ -93,16 +97,16 @@ pub record Stored (number at : ℕ) (out₀ : List ℕ) (left rest : ℕ) (out :
   pub fits : rest < 2 ^ 64
   pub stored : out ≡ sets out₀ (at + suc left) tail
 
-module _ (number at : ℕ) (out₀ : List ℕ) where
-  pub stored-start : number < 2 ^ 64 → (left : ℕ) → length (decimal number) ≡ suc left → Stored number at out₀ left number out₀
-  stored-start fits left e =
+module _ {number at : ℕ} {out₀ : List ℕ} where
+  pub stored-start : {left : ℕ} → number < 2 ^ 64 → length (decimal number) ≡ suc left → Stored number at out₀ left number out₀
+  stored-start fits e =
       record { tail = []; whole = sym (append-nil (decimal number)); counted = e; fits = fits; stored = refl }
 
-  pub stored-next : (left rest : ℕ) (out : List ℕ) → 0 < left → Stored number at out₀ left rest out
+  pub stored-next : (left : ℕ) {rest : ℕ} {out : List ℕ} → 0 < left → Stored number at out₀ left rest out
       → Stored number at out₀ (left - 1) (rest / 10) (set out (at + left) (digit (rest % 10)))
-  stored-next zero rest out some s = let z : ⊥ = omega arith in absurd z
-  stored-next (suc left) rest out some s =
-      let large : 10 ≤ rest = ⊎-elim (λ (one : (suc left ≡ 0) × (rest < 10)). omega arith) (λ (more : (0 < suc left) × (10 ≤ rest)). more .1) (one-or-more rest (suc left) (s .fits) (s .counted)) in
+  stored-next zero some s = let z : ⊥ = omega arith in absurd z
+  stored-next (suc left) {rest} some s =
+      let large = more-large rest left (s .counted) in
       rw sub-one
       (record {
         tail = digit (rest % 10) ∷ s .tail;
@@ -114,10 +118,11 @@ module _ (number at : ℕ) (out₀ : List ℕ) where
             (set-sets (s .tail) out₀ (suc (at + suc left)) (at + suc left) (digit (rest % 10)) (omega arith));
       })
 
-  pub stored-last : (rest : ℕ) (out : List ℕ) → Stored number at out₀ 0 rest out
+  pub stored-last : (left : ℕ) {rest : ℕ} {out : List ℕ} → left ≡ 0 → Stored number at out₀ left rest out
       → set out at (digit (rest % 10)) ≡ sets out₀ at (decimal number)
-  stored-last rest out s =
-      let small : rest < 10 = ⊎-elim (λ (one : (0 ≡ 0) × (rest < 10)). one .1) (λ (more : (0 < 0) × (10 ≤ rest)). omega arith) (one-or-more rest 0 (s .fits) (s .counted)) in
+  stored-last (suc left) none s = let z : ⊥ = omega arith in absurd z
+  stored-last zero {rest} none s =
+      let small = one-small rest (s .fits) (s .counted) in
       let same : rest % 10 ≡ rest = omega arith in
       rw (same, s .stored, s .whole, decimal-one rest small, add-one)
       (set-sets (s .tail) out₀ (suc at) at (digit rest) (omega arith))

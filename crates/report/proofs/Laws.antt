@@ -54,6 +54,14 @@ module _ (ws : List ℕ) where
       go zero = answer-unrefused (sheetText ws) room (answerFor (sheetText ws) room) refl
       go (suc n) = refl
 
+  -- what was printed of its text is what is printed of a sound book
+  pub sheet-given : (buffer : List ℕ) {answer : Printed} {after : List ℕ} → sound ws ≡ true
+      → (answer ≡ answerFor (sheetText ws) (length buffer)) × (after ≡ bufferWith (sheetText ws) buffer)
+      → (answer ≡ sheetAnswer ws (length buffer)) × ((printedRefusal answer ≡ sheetRefusal ws) × (after ≡ sheetBuffer ws buffer))
+  sheet-given buffer fine gave =
+      let answered = gave .0 ∙ sym (sheet-answered (length buffer) fine) in
+      (answered, (answer-refusal (length buffer) _ answered, gave .1 ∙ sym (sheet-printed buffer fine)))
+
 -- a text that fits is written whole, and the bytes past it stay as they were
 pub fitting-written : (text : List ℕ) (room : ℕ) → length text ≤ room → answerFor text room ≡ Written (length text)
 unfolding answerFor
@@ -64,9 +72,9 @@ unfolding bufferWith
 fitting-buffer text buffer h = rw (le-leb (length text) (length buffer) h)
 
 -- so where it is stored in the buffer itself
-pub stored-printed : (text buffer after : List ℕ) (count : ℕ) → length text ≤ length buffer → count ≡ length text → after ≡ sets buffer 0 text
+pub stored-printed : (text buffer : List ℕ) {after : List ℕ} {count : ℕ} → length text ≤ length buffer → count ≡ length text → after ≡ sets buffer 0 text
     → (Written count ≡ answerFor text (length buffer)) × (after ≡ bufferWith text buffer)
-stored-printed text buffer after count h counted stored =
+stored-printed text buffer h counted stored =
     let fits : 0 + length text ≤ length buffer = omega (arith, h) in (
       ap Written counted ∙ sym (fitting-written text (length buffer) h),
       stored ∙ (rw zero-add at (sets-eq text buffer 0 fits)) ∙ sym (fitting-buffer text buffer h),

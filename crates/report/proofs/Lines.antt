@@ -123,8 +123,8 @@ module _ (ws : List ℕ) where
     pub stored : out ≡ sets out₀ start (linesTo ws (chain - 1))
 
   -- the next is later, also where it is past the last
-  pub next-later : (after next : ℕ) → after ≤ mostChains → NextUsed ws after next → after < next
-  next-later after next h n =
+  pub next-later : {after next : ℕ} → after ≤ mostChains → NextUsed ws after next → after < next
+  next-later {after} {next} h n =
       ⊎-elim
       (λ (e : next ≡ suc mostChains). omega (arith, e, h))
       (λ (l : next < suc mostChains). n .later (omega (arith, l)))
@@ -133,15 +133,19 @@ module _ (ws : List ℕ) where
   -- no line stands between two used chains
   lines-between : (after next : ℕ) → after ≤ mostChains → NextUsed ws after next → linesTo ws (next - 1) ≡ linesTo ws after
   lines-between after next h n =
-      let later = next-later after next h n in
+      let later = next-later h n in
       lines-skip after (next - 1) (omega arith) (λ chain a b. n .none-between chain a (omega arith))
 
-  module _ (out₀ : List ℕ) (start : ℕ) where
-    pub listed-start : (chain : ℕ) → NextUsed ws 0 chain → Listed out₀ start chain start out₀
-    listed-start chain n =
+  all-lines : (n : ℕ) → n ≡ mostChains → chainLines ws ≡ linesTo ws n
+  unfolding chainLines
+  all-lines n e = ap (λ (k : ℕ). linesTo ws k) (sym e)
+
+  module _ {out₀ : List ℕ} {start : ℕ} where
+    pub listed-start : {chain : ℕ} → NextUsed ws 0 chain → Listed out₀ start chain start out₀
+    listed-start {chain} n =
         let none = lines-between 0 chain (omega arith) n in
         record {
-          some = next-later 0 chain (omega arith) n;
+          some = next-later (omega arith) n;
           inside = n .inside;
           used = n .used;
           ends = rw none (omega arith);
@@ -149,30 +153,30 @@ module _ (ws : List ℕ) where
         }
 
     -- the line of the chain, and the next
-    pub listed-next : (chain end next end′ : ℕ) (out out′ : List ℕ) → Listed out₀ start chain end out → chain ≤ mostChains → NextUsed ws chain next
-        → end′ ≡ end + length (chainLine ws chain) → out′ ≡ sets out end (chainLine ws chain) → Listed out₀ start next end′ out′
-    listed-next chain end next end′ out out′ l h n ends stored =
-        let later = next-later chain next h n in
+    pub listed-next : {chain end next end′ : ℕ} {out out′ : List ℕ} → Listed out₀ start chain end out → chain ≤ mostChains
+        → NextUsed ws chain next → (end′ ≡ end + length (chainLine ws chain)) × (out′ ≡ sets out end (chainLine ws chain))
+        → Listed out₀ start next end′ out′
+    listed-next {chain} {end} {next} l h n put =
+        let later = next-later h n in
         let lines = lines-between chain next h n ∙ lines-with chain (l .some) (l .used h) in
         record {
           some = omega arith;
           inside = n .inside;
           used = n .used;
-          ends = rw lines (omega (arith, ends, l .ends, length-append (linesTo ws (chain - 1)) (chainLine ws chain)));
+          ends = rw lines (omega (arith, put .0, l .ends, length-append (linesTo ws (chain - 1)) (chainLine ws chain)));
           stored =
-              stored
+              put .1
               ∙ rw (lines, l .stored, l .ends)
               (sym (sets-append (linesTo ws (chain - 1)) (chainLine ws chain) out₀ start));
         }
 
     -- the line has room where all lines have
-    all-lines : (n : ℕ) → n ≡ mostChains → chainLines ws ≡ linesTo ws n
-    unfolding chainLines
-    all-lines n e = ap (λ (k : ℕ). linesTo ws k) (sym e)
+    pub listed-kept : {chain end : ℕ} {out : List ℕ} → Listed out₀ start chain end out → length out ≡ length out₀
+    listed-kept {chain} l = ap length (l .stored) ∙ length-sets out₀ start (linesTo ws (chain - 1))
 
-    pub listed-room : (chain end : ℕ) (out : List ℕ) → Listed out₀ start chain end out → chain ≤ mostChains → start + length (chainLines ws) ≤ length out₀
-        → end + length (chainLine ws chain) ≤ length out
-    listed-room chain end out l h room = go mostChains refl
+    pub listed-room : {chain end : ℕ} {out : List ℕ} → Listed out₀ start chain end out → chain ≤ mostChains
+        → start + length (chainLines ws) ≤ length out₀ → end + length (chainLine ws chain) ≤ length out
+    listed-room {chain} {end} {out} l h room = go mostChains refl
       where
         go : (n : ℕ) → n ≡ mostChains → end + length (chainLine ws chain) ≤ length out
         go n e =
@@ -181,21 +185,22 @@ module _ (ws : List ℕ) where
               e,
               l .ends,
               room,
-              ap length (l .stored) ∙ length-sets out₀ start (linesTo ws (chain - 1)),
+              listed-kept l,
               ap length (lines-with chain (l .some) (l .used h)) ∙ length-append (linesTo ws (chain - 1)) (chainLine ws chain),
               lines-more chain n (omega arith),
               ap length (all-lines n e),
             )
 
     -- after the last chain all lines are stored
-    pub listed-all : (chain end : ℕ) (out : List ℕ) → Listed out₀ start chain end out → mostChains < chain
+    pub listed-all : {chain end : ℕ} {out : List ℕ} → Listed out₀ start chain end out → mostChains < chain
         → (end ≡ start + length (chainLines ws)) × (out ≡ sets out₀ start (chainLines ws))
-    listed-all chain end out l h =
+    listed-all {chain} l h =
         let all = all-lines (chain - 1) (omega (arith, l .inside)) in
         (l .ends ∙ rw all, l .stored ∙ rw all)
 
   -- a statement's numbers are those of a walk over all elements
-  walked-all : (chain : ℕ) → Walked ws chain (elements ws) (elementsOn ws chain) (waitingOn ws chain) (sharesOn ws chain operation) (sharesOn ws chain provision)
+  walked-all : (chain : ℕ)
+      → Walked ws chain (elements ws) (elementsOn ws chain) (waitingOn ws chain) (sharesOn ws chain operation) (sharesOn ws chain provision)
   unfolding elementsOn waitingOn sharesOn
   walked-all chain =
       record { inside = omega arith; all-counted = refl; all-waiting = refl; all-operation = refl; all-provision = refl }
@@ -206,17 +211,19 @@ module _ (ws : List ℕ) where
     unfolding chainLine statementOf
     line-most chain h =
         let few = sound-counted ws fine in
+        let op = sharesOn ws chain operation in
+        let prov = sharesOn ws chain provision in
         let counts = walked-fits ws chain (walked-all chain) in
         let shares = walked-most ws chain fine (walked-all chain) in
         omega (
           arith,
-          line-of-five chain (elementsOn ws chain) (waitingOn ws chain) (sharesOn ws chain operation) (sharesOn ws chain provision) (sharesOn ws chain operation + sharesOn ws chain provision),
+          line-of-five chain (elementsOn ws chain) (waitingOn ws chain) op prov (op + prov),
           digits-most 4 chain (omega arith),
           digits-most 2 (elementsOn ws chain) (omega (arith, few, counts)),
           digits-most 2 (waitingOn ws chain) (omega (arith, few, counts)),
-          digits-most 18 (sharesOn ws chain operation) (omega (arith, shares)),
-          digits-most 18 (sharesOn ws chain provision) (omega (arith, shares)),
-          digits-most 18 (sharesOn ws chain operation + sharesOn ws chain provision) (omega (arith, shares)),
+          digits-most 18 op (omega (arith, shares)),
+          digits-most 18 prov (omega (arith, shares)),
+          digits-most 18 (op + prov) (omega (arith, shares)),
         )
 
     -- the lines of the chains 1 to n have at most 74 bytes for each of their elements
@@ -226,7 +233,8 @@ module _ (ws : List ℕ) where
     lines-most (suc n) h = go (ltb 0 (elementsOn ws (suc n))) refl (lines-most n (omega arith))
       where
         go : (t : Bool) → ltb 0 (elementsOn ws (suc n)) ≡ t → length (linesTo ws n) ≤ lineRoom * sumBelow n (λ j. elementsOn ws (j + 1))
-            → length (linesTo ws n ++ cond (ltb 0 (elementsOn ws (suc n))) (chainLine ws (suc n)) []) ≤ lineRoom * (sumBelow n (λ j. elementsOn ws (j + 1)) + elementsOn ws (n + 1))
+            → length (linesTo ws n ++ cond (ltb 0 (elementsOn ws (suc n))) (chainLine ws (suc n)) [])
+            ≤ lineRoom * (sumBelow n (λ j. elementsOn ws (j + 1)) + elementsOn ws (n + 1))
         go true e before =
             rw (e, length-append, add-one) (omega (arith, before, line-most (suc n) h, ltb-true 0 (elementsOn ws (suc n)) e))
         go false e before = rw (e, append-nil (linesTo ws n)) (omega (arith, before))

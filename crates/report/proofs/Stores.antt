@@ -1,12 +1,11 @@
 -- Bytes stored one after the other. Assumes nothing.
 use Prim.Native.Nat.{ℕ, suc, _+_, _≤_, _<_}
 use native.Mathlib.Nat.{add-zero, suc-add, add-suc}
-use native.Mathlib.Numerals.{add-one}
 use native.Mathlib.Omega.{arith}
 use mathlib.Core.Path.{_≡_, refl, sym, _∙_, ap}
 use mathlib.Core.List.{List, [], _∷_, _++_}
-use lib.ListN.{length, getD, take, drop, set, replicate, length-append, length-replicate, drop-of-length-le}
-use lib.Seq.{sets, sets-eq, set-comm, drop-cons, take-append-seam}
+use lib.ListN.{length, take, drop, set, replicate, length-append, length-replicate}
+use lib.Seq.{sets, sets-eq, length-sets, set-comm, take-append-seam}
 
 -- two texts, the second behind the first
 pub sets-append : (s t out : List ℕ) (i : ℕ) → sets out i (s ++ t) ≡ sets (sets out i s) (i + length s) t
@@ -20,22 +19,17 @@ set-sets (x ∷ t) out i j b h =
     set-sets t (set out i x) (suc i) j b (omega arith)
     ∙ ap (λ (l : List ℕ). sets l (suc i) t) (set-comm out i j x b (λ e. let z : ⊥ = omega arith in absurd z))
 
--- a turn of the loop that stores a text byte by byte
-pub sets-step : (text out : List ℕ) (at i : ℕ) → i < length text
-    → sets (set out (at + i) (getD text i 0)) (at + (i + 1)) (drop (i + 1) text) ≡ sets out (at + i) (drop i text)
-sets-step text out at i h = rw (add-one, drop-cons text i 0, add-suc)
+-- one text and then another: that there is room, where they end, and what is stored
+module _ (s t out : List ℕ) {between : List ℕ} {i : ℕ} (one : between ≡ sets out 0 s) (end : i ≡ 0 + length s) where
+  pub then-room : length (s ++ t) ≤ length out → i + length t ≤ length between
+  then-room h = omega (arith, end, h, length-append s t, ap length one, length-sets out 0 s)
 
--- nothing is left of a text that is stored
-pub sets-done : (text out : List ℕ) (i j : ℕ) → length text ≤ j → sets out i (drop j text) ≡ out
-sets-done text out i j h = rw (drop-of-length-le text {i = j} h)
+  module _ {after : List ℕ} (two : after ≡ sets between i t) where
+    pub then-kept : length after ≡ length out
+    then-kept = ap length two ∙ length-sets between i t ∙ ap length one ∙ length-sets out 0 s
 
--- one text and then another: where they end, and what is stored
-pub then-stored : (s t out between after : List ℕ) (i j : ℕ) → between ≡ sets out 0 s → i ≡ 0 + length s → after ≡ sets between i t → j ≡ i + length t
-    → (j ≡ length (s ++ t)) × (after ≡ sets out 0 (s ++ t))
-then-stored s t out between after i j one end two last = (
-  omega (arith, end, last, length-append s t),
-  rw (two, one, end) (sym (sets-append s t out 0)),
-)
+    pub then-stored : {j : ℕ} → j ≡ i + length t → (j ≡ length (s ++ t)) × (after ≡ sets out 0 (s ++ t))
+    then-stored last = (omega (arith, end, last, length-append s t), rw (two, one, end) (sym (sets-append s t out 0)))
 
 -- a text at the front of a buffer is its first bytes, as many as it is long
 pub record Front (text out : List ℕ) (count : ℕ) : Type 0 where
@@ -43,8 +37,8 @@ pub record Front (text out : List ℕ) (count : ℕ) : Type 0 where
   pub counted : count ≡ length (take count out)
   pub is-text : take count out ≡ text
 
-pub front-of : (text rest out : List ℕ) (count : ℕ) → count ≡ length text → out ≡ text ++ rest → Front text out count
-front-of text rest out count counted is =
+pub front-of : (rest : List ℕ) {text out : List ℕ} {count : ℕ} → count ≡ length text → out ≡ text ++ rest → Front text out count
+front-of rest {text} {out} {count} counted is =
     let front : take count out ≡ text = rw (is, counted) (take-append-seam text rest) in
     record {
       inside = omega (arith, counted, ap length is, length-append text rest);
@@ -53,8 +47,8 @@ front-of text rest out count counted is =
     }
 
 -- so where it is stored in an array of zeros
-pub in-room : (room count : ℕ) (text array : List ℕ) → array ≡ sets (replicate room 0) 0 text → count ≡ length text → length text ≤ room
+pub in-room : (room : ℕ) {count : ℕ} {text array : List ℕ} → array ≡ sets (replicate room 0) 0 text → count ≡ length text → length text ≤ room
     → Front text array count
-in-room room count text array stored counted h =
+in-room room {text = text} stored counted h =
     let fits : 0 + length text ≤ length (replicate {A = ℕ} room 0) = omega (arith, h, length-replicate {A = ℕ} room 0) in
-    front-of text (drop (0 + length text) (replicate room 0)) array count counted (stored ∙ sets-eq text (replicate room 0) 0 fits)
+    front-of (drop (0 + length text) (replicate room 0)) counted (stored ∙ sets-eq text (replicate room 0) 0 fits)

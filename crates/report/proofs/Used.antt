@@ -29,10 +29,7 @@ pub record Seen (ws : List ℕ) (after n next : ℕ) : Type 0 where
   pub met : next ≤ mostChains → 0 < among ws n next
   pub none-between : (chain : ℕ) → after < chain → chain < next → among ws n chain ≡ 0
 
-module _ (ws : List ℕ) (after : ℕ) where
-  pub seen-start : Seen ws after 0 (suc mostChains)
-  seen-start = record { inside = omega arith; later = λ h. omega arith; met = λ h. omega arith; none-between = λ chain l r. refl }
-
+module _ (ws : List ℕ) where
   -- one more element, by its chain
   next-met : (n chain : ℕ) → elementAt ws n .chain ≡ chain → among ws (n + 1) chain ≡ among ws n chain + 1
   next-met n chain e = sum-next n (λ p. oneIf (ofChain chain (elementAt ws p))) ∙ rw (eq-eqb (elementAt ws n .chain) chain e)
@@ -44,10 +41,14 @@ module _ (ws : List ℕ) (after : ℕ) where
   next-more : (n chain : ℕ) → among ws n chain ≤ among ws (n + 1) chain
   next-more n chain = omega (arith, sum-next n (λ p. oneIf (ofChain chain (elementAt ws p))))
 
+module _ {ws : List ℕ} {after : ℕ} where
+  pub seen-start : Seen ws after 0 (suc mostChains)
+  seen-start = record { inside = omega arith; later = λ h. omega arith; met = λ h. omega arith; none-between = λ chain l r. refl }
+
   -- its chain is nearer, or it is not
-  pub seen-nearer : (n next new : ℕ) → Seen ws after n next → ltb after (elementAt ws n .chain) && ltb (elementAt ws n .chain) next ≡ true
+  pub seen-nearer : {n next new : ℕ} → Seen ws after n next → ltb after (elementAt ws n .chain) && ltb (elementAt ws n .chain) next ≡ true
       → new ≡ elementAt ws n .chain → Seen ws after (n + 1) new
-  seen-nearer n next new s test is =
+  seen-nearer {n} {next} s test is =
       let parts = both (ltb after (elementAt ws n .chain)) (ltb (elementAt ws n .chain) next) test in
       let low = ltb-true after (elementAt ws n .chain) (parts .0) in
       let high = ltb-true (elementAt ws n .chain) next (parts .1) in
@@ -55,31 +56,30 @@ module _ (ws : List ℕ) (after : ℕ) where
       (record {
         inside = omega (arith, s .inside);
         later = λ h. low;
-        met = λ h. omega (arith, next-met n (elementAt ws n .chain) refl);
-        none-between = λ chain a b. next-other n chain (λ e. omega arith) ∙ s .none-between chain a (omega arith);
+        met = λ h. omega (arith, next-met ws n (elementAt ws n .chain) refl);
+        none-between = λ chain a b. next-other ws n chain (λ e. omega arith) ∙ s .none-between chain a (omega arith);
       })
 
-  pub seen-other : (n next new : ℕ) → Seen ws after n next → ltb after (elementAt ws n .chain) && ltb (elementAt ws n .chain) next ≡ false
+  pub seen-other : {n next new : ℕ} → Seen ws after n next → ltb after (elementAt ws n .chain) && ltb (elementAt ws n .chain) next ≡ false
       → new ≡ next → Seen ws after (n + 1) new
-  seen-other n next new s test is =
+  seen-other {n} {next} s test is =
       rw is
       (record {
         inside = s .inside;
         later = s .later;
-        met = λ h. omega (arith, s .met h, next-more n next);
-        none-between = λ chain a b. next-other n chain (λ e. not-nearer chain a b e) ∙ s .none-between chain a b;
+        met = λ h. omega (arith, s .met h, next-more ws n next);
+        none-between = λ chain a b. next-other ws n chain (λ e. not-nearer chain a b e) ∙ s .none-between chain a b;
       })
     where
       not-nearer : (chain : ℕ) → after < chain → chain < next → elementAt ws n .chain ≡ chain → ⊥
       not-nearer chain a b e =
-          true≢false
-          (sym (and-both (ltb after (elementAt ws n .chain)) (ltb (elementAt ws n .chain) next) (lt-ltb after (elementAt ws n .chain) (omega arith)) (lt-ltb (elementAt ws n .chain) next (omega arith)))
-          ∙ test)
+          let at = elementAt ws n .chain in
+          true≢false (sym (and-both (ltb after at) (ltb at next) (lt-ltb after at (omega arith)) (lt-ltb at next (omega arith))) ∙ test)
 
   -- after all elements it is the next used chain
-  pub seen-all : (n next : ℕ) → n ≡ elements ws → Seen ws after n next → NextUsed ws after next
+  pub seen-all : {n next : ℕ} → n ≡ elements ws → Seen ws after n next → NextUsed ws after next
   unfolding isUsed elementsOn
-  seen-all n next e s =
+  seen-all e s =
       record {
         inside = s .inside;
         later = s .later;
@@ -94,7 +94,8 @@ elements-by-chain ws fine =
     sum-cong mostChains
     (λ j. countBelow (elements ws) (λ p. ofChain (j + 1) (elementAt ws p)))
     (λ j. sumBelow (elements ws) (λ p. cond (eqb (elementAt ws p .chain) (j + 1)) 1 0))
-    (λ j h. sum-cong (elements ws) (λ p. oneIf (ofChain (j + 1) (elementAt ws p))) (λ p. cond (eqb (elementAt ws p .chain) (j + 1)) 1 0) (λ p i. one-or-none (eqb (elementAt ws p .chain) (j + 1))))
+    (λ j h. sum-cong (elements ws) (λ p. oneIf (ofChain (j + 1) (elementAt ws p))) (λ p. cond (eqb (elementAt ws p .chain) (j + 1)) 1 0)
+    (λ p i. one-or-none (eqb (elementAt ws p .chain) (j + 1))))
     ∙ sum-by-key 1 mostChains (elements ws) (λ p. elementAt ws p .chain) (λ p. 1)
     (λ p h. (chain-inside ws fine p h .0, omega (arith, chain-inside ws fine p h .1)))
     ∙ ones (elements ws)

@@ -3,6 +3,8 @@ ghost use mathlib.Core.Bool.{true};
 ghost use mathlib.Core.Path.{_≡_};
 ghost use Rattle.book_words.specs.Soundness.{sound};
 ghost use Rattle.report.specs.Chains.{NextUsed};
+use book_words::CHAIN_WORD;
+use book_words::ELEMENT_LIST;
 
 // The last chain.
 pub const LAST: u64 = 10_000;
@@ -16,7 +18,7 @@ pub fn next_used(book: &[u64], after: u64) -> u64
     let mut next = LAST + 1;
     let mut place = 0;
     while place < count {
-        let chain = book[book_words::FIRST_ELEMENT + book_words::ELEMENT_WORDS * place + 1];
+        let chain = book[ELEMENT_LIST.first + ELEMENT_LIST.width * place + CHAIN_WORD];
         if (after < chain) & (chain < next) {
             next = chain;
         }

@@ -51,17 +51,13 @@ same-length : tie.Need-same-length
 same-length c = search needs
 
 returns : tie.Need-returns
-returns c =
-    let made = c .before .before in
-    rw (made .before .before .before .call .given .1) (made .«open» .ensures)
+returns c = rw (c .before .before .before .before .before .call .given .1) (c .before .before .«open» .ensures)
 
 same-length-2 : tie.Need-same-length-2
 same-length-2 c = search needs
 
 returns-2 : tie.Need-returns-2
-returns-2 c =
-    let made = c .before .before in
-    rw (made .before .before .before .call2 .given .1) (made .post .ensures)
+returns-2 c = rw (c .before .before .before .before .before .call2 .given .1) (c .before .before .post .ensures)
 
 same-length-3 : tie.Need-same-length-3
 same-length-3 c = search needs
@@ -75,17 +71,13 @@ same-length-4 : tie.Need-same-length-4
 same-length-4 c = search needs
 
 returns-4 : tie.Need-returns-4
-returns-4 c =
-    let made = c .before .before in
-    rw (made .before .before .before .call4 .given .1) (made .enrol .ensures)
+returns-4 c = rw (c .before .before .before .before .before .call4 .given .1) (c .before .before .enrol .ensures)
 
 same-length-5 : tie.Need-same-length-5
 same-length-5 c = search needs
 
 returns-5 : tie.Need-returns-5
-returns-5 c =
-    let made = c .before .before in
-    rw (made .before .before .before .call5 .given .1) (made .quote .ensures)
+returns-5 c = rw (c .before .before .before .before .before .call5 .given .1) (c .before .before .quote .ensures)
 
 same-length-6 : tie.Need-same-length-6
 same-length-6 c = search needs

@@ -31,8 +31,10 @@ slice-aggregate-write-output : tie.Need-slice-aggregate-write-output
 slice-aggregate-write-output c = search needs
 
 -- what is to be printed is at the front of the buffer
-front : (c : tie.After-print-file) → Front (printed (take (c .before .before .before .before .read-input .result) (c .before .before .before .before .read-input .last .0))) (c .print-file .last .1 .0) (c .print-file .result)
-front c = front-of _ _ (c .print-file .last .1 .0) (c .print-file .result) (c .print-file .ensures .0) (c .print-file .ensures .1)
+front : (c : tie.After-print-file)
+    → Front (printed (take (c .before .before .before .before .read-input .result) (c .before .before .before .before .read-input .last .0)))
+    (c .print-file .last .1 .0) (c .print-file .result)
+front c = front-of _ (c .print-file .ensures .0) (c .print-file .ensures .1)
 
 array-share-prefix-out : tie.Need-array-share-prefix-out
 array-share-prefix-out c = front (c .before .before) .inside

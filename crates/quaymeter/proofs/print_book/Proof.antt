@@ -25,7 +25,7 @@ returns c =
     let book = start .args .book .now in
     let out = start .args .out .now in (
       c .length-of .ensures
-          ∙ whole-length (sheetText book) (length out) (over .result) (over .ensures .0 ∙ sheet-answered book (length out) (start .pre .0))
+          ∙ whole-length (sheetText book) (length out) (over .ensures .0 ∙ sheet-answered book (length out) (start .pre .0))
           (omega (arith, start .pre .1, sheet-fits book (start .pre .0))),
       over .ensures .1 .1 ∙ sheet-printed book out (start .pre .0),
     )

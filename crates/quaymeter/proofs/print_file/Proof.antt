@@ -17,9 +17,9 @@ same-length c = search needs
 
 returns : tie.Need-returns
 returns c =
-    let put = c .before .before .before .print-loaded in
+    let put = c .before .before .before .print-loaded .ensures in
     let start = c .before .before .before .before .before .before .before .before in
-    (put .ensures .0, printed-front (replicate bookLength 0) (start .args .file .now) (start .args .out .now) (put .last .1 .1 .0) (put .result) (start .pre) (put .ensures .0) (put .ensures .1 .1))
+    (put .0, printed-front (replicate bookLength 0) (start .args .file .now) (start .args .out .now) (start .pre) (put .0) (put .1 .1))
 
 pub print-file-spec : {M : Type 1} → statement M
 print-file-spec =

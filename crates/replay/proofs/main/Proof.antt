@@ -11,12 +11,11 @@ use Rattle.replay.proofs.main.Statement.{statement}
 use Rattle.replay.proofs.main.Tie as tie
 
 abbrev Inv-loop : tie.InvT-loop
-Inv-loop chunk₀ buffer₀ weights₀ array₀ file₀ progress₀ turns₀ chunk buffer weights array file progress turns =
-    (length chunk ≡ 65_536) × (progress .passed + 65_536 * turns + 1 < 2 ^ 64)
+Inv-loop chunk₀ buffer₀ memory₀ file₀ state₀ turns₀ chunk buffer memory file state turns =
+    (length chunk ≡ 65_536) × (state .passed + 65_536 * turns + 1 < 2 ^ 64)
 
 abbrev μ-loop : tie.MeasureT-loop
-μ-loop chunk₀ buffer₀ weights₀ array₀ file₀ progress₀ turns₀ chunk buffer weights array file progress turns =
-    turns
+μ-loop chunk₀ buffer₀ memory₀ file₀ state₀ turns₀ chunk buffer memory file state turns = turns
 
 large-buffer-requires : tie.Need-large-buffer-requires Inv-loop μ-loop
 large-buffer-requires c κs = search needs
@@ -28,7 +27,7 @@ first-requires : tie.Need-first-requires Inv-loop μ-loop
 first-requires c κs = search needs
 
 loop-holds : tie.Need-loop-holds Inv-loop μ-loop
-loop-holds c = (search needs, omega (arith, ap (λ (s : Stage). s .passed) (c .first .ensures [] [] [])))
+loop-holds c = (search needs, omega (arith, ap (λ (s : Stage). s .passed) (c .first .ensures .0 [] [])))
 
 slice-aggregate-read-full : tie.Need-slice-aggregate-read-full Inv-loop μ-loop
 slice-aggregate-read-full c = search needs

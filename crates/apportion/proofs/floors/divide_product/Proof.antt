@@ -52,7 +52,8 @@ plus-requires c κs =
     let a = start in-loop .args in
     let power = powers .whole bit (power-within in-loop) in
     let less = powers .less bit (power-within in-loop) in
-    let q : at (a .quotients .now) bit ≤ a .pool = le-of-mul-le-mul-right {k = a .total} (omega (arith, mul-le-mul-left (a .pool) (power-within in-loop))) (omega arith) in
+    let product = mul-le-mul-left (a .pool) (power-within in-loop) in
+    let q : at (a .quotients .now) bit ≤ a .pool = le-of-mul-le-mul-right {k = a .total} (omega arith) (omega arith) in
     let s = sum-small in-loop in
     omega arith
 

@@ -1,5 +1,5 @@
--- `apportion::floors::set_floors` meets its contract: up to place k the floors and remainders are those of the definition, and `left` is the pool without these floors.
--- Assumes nothing.
+-- `apportion::floors::set_floors` meets its contract: up to place k the floors and remainders are those of the definition, and
+-- `left` is the pool without these floors. Assumes nothing.
 use mathlib.Core.Path.{_≡_, sym}
 use Prim.Native.Nat.{_*_, _/_, _%_, _-_, _<_}
 use native.Mathlib.Omega.{arith}
@@ -26,7 +26,8 @@ start c = c .before .before .before .before .before .before .before .before .bef
 
 -- the two tables, as `set_powers` left them
 powers : (c : tie.At-loop Inv-loop μ-loop)
-    → Powers (start c .args .pool) (start c .args .total) (c .before .before .before .set-powers .last .1 .1 .0) (c .before .before .before .set-powers .last .1 .1 .1 .0)
+    → let tables = c .before .before .before .set-powers .last in
+    Powers (start c .args .pool) (start c .args .total) (tables .1 .1 .0) (tables .1 .1 .1 .0)
 powers c = c .before .before .before .set-powers .ensures
 
 long : (c : tie.At-loop Inv-loop μ-loop)
@@ -34,7 +35,8 @@ long : (c : tie.At-loop Inv-loop μ-loop)
 long c = flooring-long (c .loop .inv)
 
 -- place k is within both slices
-inside : (c : tie.In-loop Inv-loop μ-loop) → (c .before .loop .k < length (c .before .loop .floors)) × (c .before .loop .k < length (c .before .loop .remainders))
+inside : (c : tie.In-loop Inv-loop μ-loop)
+    → (c .before .loop .k < length (c .before .loop .floors)) × (c .before .loop .k < length (c .before .loop .remainders))
 inside c = omega (arith, long (c .before), c .loop-test .taken)
 
 -- what `divide_product` gave is this place's floor and remainder
@@ -95,7 +97,8 @@ slice-write-remainders c = omega (arith, inside (c .before .before .before .befo
 
 sub-left : tie.Need-sub-left Inv-loop μ-loop
 sub-left c =
-    flooring-within (c .before .before .before .before .before .before .loop .inv) (c .before .before .before .before .before .loop-test .taken) (part (c .before))
+    let turn = c .before .before .before .before .before in
+    flooring-within (turn .before .loop .inv) (turn .loop-test .taken) (part (c .before))
 
 add-k : tie.Need-add-k Inv-loop μ-loop
 add-k c = search needs
@@ -105,7 +108,8 @@ loop-less c = omega (arith, c .before .before .before .before .before .loop-test
 
 loop-again : tie.Need-loop-again Inv-loop μ-loop
 loop-again c =
-    flooring-next (c .before .before .before .before .before .before .loop .inv) (c .before .before .before .before .before .loop-test .taken) (part (c .before))
+    let turn = c .before .before .before .before .before in
+    flooring-next (turn .before .loop .inv) (turn .loop-test .taken) (part (c .before))
 
 same-length : tie.Need-same-length Inv-loop μ-loop
 same-length c = omega (arith, long (c .before), start (c .before) .pre .1 .1)

@@ -8,7 +8,8 @@ use Rattle.apportion.proofs.floors.set_powers.Statement.{statement}
 use Rattle.apportion.proofs.floors.set_powers.Tie as tie
 
 abbrev Inv-loop : tie.InvT-loop
-Inv-loop pool total quotients₀ remainders₀ power₀ step₀ bit₀ quotients remainders power step bit = Making pool total quotients remainders (power .quotient) (power .remainder) step bit
+Inv-loop pool total quotients₀ remainders₀ power₀ step₀ bit₀ quotients remainders power step bit =
+    Making pool total quotients remainders (power .quotient) (power .remainder) step bit
 
 abbrev μ-loop : tie.MeasureT-loop
 μ-loop pool total quotients₀ remainders₀ power₀ step₀ bit₀ quotients remainders power step bit = total + 1 - step

@@ -2,7 +2,7 @@
 -- Assumes nothing.
 use mathlib.Core.Logic.{⊎-elim}
 use mathlib.Core.Path.{_≡_, ap}
-use Prim.Native.Nat.{ℕ, _-_, _≤_}
+use Prim.Native.Nat.{_-_, _≤_}
 use native.Mathlib.Omega.{arith}
 use lib.ListN.{length}
 use lib.Dec.{leb}
@@ -49,12 +49,11 @@ loop-again c =
     (λ w. omega (arith, next, ap oneIf (lt-leb bound (r k) (w .0 .left))))
     (c .if1 .came)
 
-ended : (c : tie.After-loop Inv-loop μ-loop) → c .before .loop .k ≡ length (c .before .before .args .remainders .now)
-ended c = omega arith
-
 returns : tie.Need-returns Inv-loop μ-loop
 unfolding countAtLeast
-returns c = omega (arith, ap (λ (n : ℕ). reach n (at (c .before .before .args .remainders .now)) (c .before .before .args .bound)) (ended c))
+returns c =
+    let end : c .before .loop .k ≡ length (c .before .before .args .remainders .now) = omega arith in
+    rw end at (c .before .loop .inv .1)
 
 pub count-at-least-spec : {M : Type 1} → statement M
 count-at-least-spec =

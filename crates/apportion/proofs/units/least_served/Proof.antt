@@ -21,12 +21,14 @@ reached-exactly remainders left least e =
       reached = omega arith;
     }
 
-between : (remainders : List ℕ) (left low high : ℕ) → high ≡ suc low → countAtLeast remainders high ≤ left → left ≤ countAtLeast remainders low → Bound remainders left low
+between : (remainders : List ℕ) (left low high : ℕ) → high ≡ suc low → countAtLeast remainders high ≤ left
+    → left ≤ countAtLeast remainders low → Bound remainders left low
 between remainders left low high e above reached =
     record { above = omega (arith, ap (countAtLeast remainders) e); reached = reached }
 
 abbrev Inv-loop : tie.InvT-loop
-Inv-loop remainders total left low₀ high₀ low high = (low < high) × (high ≤ total) × (countAtLeast remainders high ≤ left) × (left ≤ countAtLeast remainders low)
+Inv-loop remainders total left low₀ high₀ low high =
+    (low < high) × (high ≤ total) × (countAtLeast remainders high ≤ left) × (left ≤ countAtLeast remainders low)
 
 abbrev μ-loop : tie.MeasureT-loop
 μ-loop remainders total left low₀ high₀ low high = high - low

@@ -34,11 +34,13 @@ loop-less : tie.Need-loop-less Inv-loop μ-loop
 loop-less c = omega arith
 
 loop-again : tie.Need-loop-again Inv-loop μ-loop
-loop-again c = (
-  omega arith,
-  simp length-set (c .before .loop .inv .1),
-  ap (λ (l : List ℕ). set l (c .before .loop .k) 0) (c .before .loop .inv .2) ∙ filled-next (c .before .loop .k) (λ j. 0) (c .before .before .args .book .now) (omega (arith, c .before .before .pre)),
-)
+loop-again c =
+    let k = c .before .loop .k in
+    let s = c .before .before in (
+      omega arith,
+      simp length-set (c .before .loop .inv .1),
+      ap (λ (l : List ℕ). set l k 0) (c .before .loop .inv .2) ∙ filled-next k (λ j. 0) (s .args .book .now) (omega (arith, s .pre)),
+    )
 
 same-length : tie.Need-same-length Inv-loop μ-loop
 same-length c = c .before .loop .inv .1

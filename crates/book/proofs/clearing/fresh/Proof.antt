@@ -24,7 +24,10 @@ same-length c = simp length-set (c .before .before .clear .kept .0)
 
 returns-2 : tie.Need-returns-2
 unfolding freshBook freshRefusal
-returns-2 c = (rw (le-ltb _ _ (c .before .before .before .before .if1 .left)), rw (le-ltb (length (c .before .before .before .before .before .before .args .book .now)) bookLength (c .before .before .before .before .if1 .left), c .before .before .clear .ensures))
+returns-2 c =
+    let test = c .before .before .before .before in
+    let long = le-ltb (length (test .before .before .args .book .now)) bookLength (test .if1 .left) in
+    (rw long, rw (long, c .before .before .clear .ensures))
 
 pub fresh-spec : {M : Type 1} → statement M
 fresh-spec = tie.close (tie.spec returns clear-requires slice-write-book same-length returns-2)

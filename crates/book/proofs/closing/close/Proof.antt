@@ -1,10 +1,7 @@
 -- `book::closing::close` meets its contract: ground 1, and the call on a sound book. Assumes nothing.
-use mathlib.Core.Bool.{not}
-use mathlib.Core.Path.{sym, _∙_, ap}
 use borrow.Author.Needs.{needs}
-use borrow.Author.Tests.{not-true, not-false}
 use Rattle.book_shares.specs.Closing.{closeBook, closeRefusal}
-use Rattle.apportion.proofs.Grounds.{stopped}
+use Rattle.book.proofs.Refusing.{unsound-alone, was-true}
 use Rattle.book.proofs.closing.close.Statement.{statement}
 use Rattle.book.proofs.closing.close.Tie as tie
 
@@ -16,12 +13,10 @@ same-length c = search needs
 
 returns : tie.Need-returns
 unfolding closeBook closeRefusal
-returns c =
-    let unsound = sym (c .before .is-sound .ensures) ∙ not-true (c .before .is-sound .result) (c .if1 .taken) in
-    (sym (stopped 1 _ (ap not unsound)), rw unsound)
+returns c = unsound-alone _ _ (c .before .is-sound .ensures) (c .if1 .taken)
 
 close-sound-requires : tie.Need-close-sound-requires
-close-sound-requires c κs = sym (c .before .before .is-sound .ensures) ∙ not-false (c .before .before .is-sound .result) (c .before .if1 .left)
+close-sound-requires c κs = was-true (c .before .before .is-sound .ensures) (c .before .if1 .left)
 
 same-length-2 : tie.Need-same-length-2
 same-length-2 c = search needs

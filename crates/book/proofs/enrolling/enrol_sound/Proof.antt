@@ -1,28 +1,39 @@
--- `book::enrolling::enrol_sound` meets its contract: the grounds before 10 turn it away, or the enrolled element is admitted or not.
--- Assumes nothing.
-use mathlib.Core.List.{List}
-use mathlib.Core.Path.{sym, _∙_}
+-- `book::enrolling::enrol_sound` meets its contract: the grounds before 10 turn it away, or the record is admitted or not. Assumes nothing.
+use mathlib.Core.Bool.{_&&_}
+use mathlib.Core.Path.{_≡_, refl, sym, ap, _∙_}
 use borrow.Author.Needs.{needs}
-use lib.ListN.{take, drop}
-use Rattle.apportion.specs.Grounds.{Ground}
-use Rattle.book.specs.Calls.{enrolGrounds, enrolRefusal, enrolReply, enrolBook}
-use Rattle.book.proofs.Accepting.{Enrolled, enrol-allowed}
-use Rattle.book.proofs.Admitting.{enrol-decided}
-use Rattle.book.proofs.Refusing.{counted-refused, earlier}
+use borrow.Author.Tests.{leb-false, not-false}
+use Rattle.apportion.specs.Grounds.{groundsBefore}
+use Rattle.book_words.specs.Book.{addElement, elements, mostElements, categories, categoryOf}
+use Rattle.book_words.specs.Totals.{withElement}
+use Rattle.book_words.specs.Measures.{between, isChain, isCode, isAmount, isDistance}
+use Rattle.book_words.specs.declared.records.Category.{Category}
+use Rattle.book.specs.Calls.{enrolGrounds, enrolRefusal, enrolReply, enrolBook, enrolledElement}
+use Rattle.apportion.proofs.Grounds.{decided-before, none-holds}
+use Rattle.book_words.proofs.Booleans.{both}
+use Rattle.book_words.proofs.Numbered.{category-there}
+use Rattle.book.proofs.Accepting.{Passed}
+use Rattle.book.proofs.Admitting.{record-decided}
+use Rattle.book.proofs.Refusing.{counted-refused}
 use Rattle.book.proofs.enrolling.enrol_sound.Statement.{statement}
 use Rattle.book.proofs.enrolling.enrol_sound.Tie as tie
 
-abbrev grounds : tie.Start → List Ground
-grounds s = enrolGrounds (s .args .book .now) (s .args .category) (s .args .chain) (s .args .code) (s .args .amount) (s .args .distance)
-
--- where the call starts, and what holds past the grounds before 10
 abbrev start : tie.Else1 → tie.Start
 start c = c .before .before .before .before
 
-allowed : (c : tie.Else1) → Enrolled (start c .args .book .now) (start c .args .category) (start c .args .chain) (start c .args .code) (start c .args .amount) (start c .args .distance)
-allowed c =
-    let s = start c in
-    enrol-allowed (s .args .book .now) (s .args .category) (s .args .chain) (s .args .code) (s .args .amount) (s .args .distance) (sym (c .before .refusal-number .ensures) ∙ c .if1 .left)
+-- none of the grounds before 10 held
+passed : (c : tie.Else1) → Passed (groundsBefore 10 (enrolGrounds (start c .args .book .now) (start c .args .e)))
+passed c =
+    none-holds (groundsBefore 10 (enrolGrounds (start c .args .book .now) (start c .args .e))) refl (sym (c .before .refusal-number .ensures) ∙ c .if1 .left)
+
+-- the category that was read is that of the number
+there : (c : tie.After-category-of)
+    → c .category-of .result ≡ categoryOf (start (c .before .before) .args .book .now) (start (c .before .before) .args .e .category)
+there c =
+    let a = start (c .before .before) .args in
+    let ws = a .book .now in
+    let number = a .e .category in
+    category-there ws number (c .category-of .result) (c .category-of .ensures) (not-false (between 1 (categories ws) number) (passed (c .before .before) 2))
 
 refusal-number-requires : tie.Need-refusal-number-requires
 refusal-number-requires c κs = search needs
@@ -38,34 +49,46 @@ unfolding enrolRefusal enrolReply enrolBook
 returns c =
     let numbered = c .before .before in
     let s = numbered .before .before .before in
-    let number = numbered .refusal-number .result in
-    counted-refused (c .turned-away .result) number _ _ _ (s .args .book .now) (s .args .sums) (c .turned-away .ensures)
-    (earlier number (take 7 (grounds s)) (drop 7 (grounds s)) (numbered .refusal-number .ensures) (c .before .if1 .taken)) (c .before .if1 .taken) (s .pre .1)
+    let is = decided-before 10 (enrolGrounds (s .args .book .now) (s .args .e)) refl (numbered .refusal-number .ensures) (c .before .if1 .taken) in
+    counted-refused _ _ (c .turned-away .ensures) is (c .before .if1 .taken) (s .pre .1)
+
+category-of-requires : tie.Need-category-of-requires
+category-of-requires c κs = c .before .before .before .before .before .pre .0
 
 enrolled-requires : tie.Need-enrolled-requires
 enrolled-requires c κs =
-    let test = c .before in
-    let ok = allowed test in
-    (ok .fine, (ok .numbered, (ok .known-code, (ok .amount-fine, ok .distance-fine))))
+    let read = c .before in
+    let test = read .before .before in
+    let e = start test .args .e in
+    let none = passed test in
+    let known = both (isChain (e .chain)) (isCode (e .code)) (not-false (isChain (e .chain) && isCode (e .code)) (none 3)) in
+    let amount = isAmount (e .code) (e .amount) in
+    let distance = isDistance (categoryOf (start test .args .book .now) (e .category) .kind) (e .distance) in
+    let measured = both amount distance (not-false (amount && distance) (none 7)) in
+    (known .1, (measured .0, ap (λ (x : Category). isDistance (x .kind) (e .distance)) (there read) ∙ measured .1))
 
 admit-element-requires : tie.Need-admit-element-requires
 admit-element-requires c κs =
-    let test = c .before .before .before in
-    (start test .pre .0, (start test .pre .1, allowed test .room))
+    let test = c .before .before .before .before in
+    let s = start test in
+    (s .pre .0, (s .pre .1, leb-false mostElements (elements (s .args .book .now)) (passed test 8)))
 
 same-length-2 : tie.Need-same-length-2
 same-length-2 c = search needs
 
 returns-2 : tie.Need-returns-2
+unfolding enrolRefusal enrolReply enrolBook
 returns-2 c =
     let put = c .before .before in
-    let made = put .before .before in
-    let test = made .before .before in
+    let read = put .before .before .before in
+    let test = read .before .before in
     let s = start test in
-    let decided =
-    enrol-decided (s .args .book .now) (s .args .category) (s .args .chain) (s .args .code) (s .args .amount) (s .args .distance) (allowed test)
-    (s .pre .1) (made .enrolled .ensures) (put .admit-element .ensures .0) (put .admit-element .ensures .1 .0) in
-    (decided .0, (decided .1, put .admit-element .ensures .1 .1))
+    let ws = s .args .book .now in
+    let e = s .args .e in
+    let new = enrolledElement (categoryOf ws (e .category)) e in
+    let made = put .before .enrolled .ensures ∙ ap (λ (k : Category). enrolledElement k e) (there read) in
+    record-decided withElement addElement new new (enrolGrounds ws e) _ ws refl refl
+    (test .before .refusal-number .ensures) (test .if1 .left) (s .pre .1) made (refl, λ z. refl) (put .admit-element .ensures)
 
 pub enrol-sound-spec : {M : Type 1} → statement M
 enrol-sound-spec =
@@ -75,6 +98,7 @@ enrol-sound-spec =
     turned-away-requires
     same-length
     returns
+    category-of-requires
     enrolled-requires
     admit-element-requires
     same-length-2

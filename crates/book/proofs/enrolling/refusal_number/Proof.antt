@@ -1,70 +1,23 @@
--- `book::enrolling::refusal_number` meets its contract: each return is the ground of its own test, after those that did
--- not hold. Assumes nothing.
-use mathlib.Core.Bool.{not, false, true}
-use mathlib.Core.List.{List}
-use mathlib.Core.Path.{_≡_, ap, _∙_, sym, refl}
-use Prim.Native.Nat.{ℕ}
+-- `book::enrolling::refusal_number` meets its contract: its tests are the conditions of the grounds. Assumes nothing.
 use native.Mathlib.Omega.{arith}
-use lib.ListN.{take, drop}
 use borrow.Author.Needs.{needs}
-use borrow.Author.Tests.{lt-leb, le-leb}
-use Rattle.apportion.specs.Grounds.{Ground, firstOf}
-use Rattle.book_words.specs.Book.{categoryOf, mostElements, elements}
-use Rattle.book_words.specs.Measures.{isChain, isCode, unsuited, isAmount, isDistance}
-use Rattle.book.specs.Calls.{enrolGrounds}
-use Rattle.apportion.proofs.Grounds.{passed, stopped}
+use mathlib.Core.List.{[]}
+use Rattle.apportion.specs.Grounds.{groundsBefore}
+use Rattle.book.specs.Calls.{enrolGroundsIn}
+use Rattle.apportion.proofs.Grounds.{groundsAfter}
 use Rattle.book_words.proofs.Facts.{sound-counted}
-use Rattle.book_words.proofs.Numbered.{was-open, of-kind, was-closed}
-use Rattle.book.proofs.Refusing.{not-is2}
+use Rattle.book_words.proofs.Numbered.{category-grounds}
 use Rattle.book.proofs.enrolling.refusal_number.Statement.{statement}
 use Rattle.book.proofs.enrolling.refusal_number.Tie as tie
 
--- the grounds before 10, and that the first so many of them do not hold
-abbrev Before : tie.Start → List Ground
-Before s = take 7 (enrolGrounds (s .args .book .now) (s .args .category) (s .args .chain) (s .args .code) (s .args .amount) (s .args .distance))
+shared-slice-read-categories : tie.Need-shared-slice-read-categories
+shared-slice-read-categories c = omega (arith, sound-counted (c .before .before .args .book .now) (c .before .before .pre))
 
-abbrev Past : ℕ → tie.Start → Type 0
-Past k s = firstOf (Before s) ≡ firstOf (drop k (Before s))
+shared-slice-read-elements : tie.Need-shared-slice-read-elements
+shared-slice-read-elements c = omega (arith, sound-counted (c .before .before .before .args .book .now) (c .before .before .before .pre))
 
-past-1 : (s : tie.Start) → Past 1 s
-past-1 s = passed 1 (ap not (s .pre))
-
-past-2 : (c : tie.Else1) → Past 2 (c .before .before .before)
-past-2 c = past-1 (c .before .before .before) ∙ passed 2 (c .if1 .left)
-
-past-3 : (c : tie.Else2) → Past 3 (c .before .before .before .before .before .before)
-past-3 c =
-    let s = c .before .before .before .before .before .before in
-    past-2 (c .before .before .before) ∙ passed 3 (not-is2 (c .before .before .is-chain .result) (isChain (s .args .chain)) (c .before .is-code .result) (isCode (s .args .code)) (c .before .before .is-chain .ensures) (c .before .is-code .ensures) ∙ c .if2 .left)
-
-past-4 : (c : tie.Else3) → Past 4 (c .before .before .before .before .before .before .before .before .before)
-past-4 c =
-    let s = c .before .before .before .before .before .before .before .before .before in
-    let read = c .before .before .category-of in
-    past-3 (c .before .before .before) ∙ passed 4 (was-open (s .args .book .now) (s .args .category) (read .result) (read .ensures) (c .before .before .before .before .before .before .if1 .left) (c .if3 .left))
-
-past-5 : (c : tie.Else4) → Past 5 (c .before .before .before .before .before .before .before .before .before .before .before)
-past-5 c =
-    let s = c .before .before .before .before .before .before .before .before .before .before .before in
-    let read = c .before .before .before .before .category-of in
-    past-4 (c .before .before) ∙ passed 6 (of-kind (s .args .book .now) (s .args .category) (read .result) (read .ensures) (c .before .before .before .before .before .before .before .before .if1 .left) (λ k. unsuited k (s .args .code)) (c .before .unsuited .result) false (c .before .unsuited .ensures) (c .if4 .left))
-
-past-6 : (c : tie.Else5) → Past 6 (c .before .before .before .before .before .before .before .before .before .before .before .before .before .before)
-past-6 c =
-    let s = c .before .before .before .before .before .before .before .before .before .before .before .before .before .before in
-    let read = c .before .before .before .before .before .before .before .category-of in
-    past-5 (c .before .before .before) ∙ passed 7 (not-is2 (c .before .before .is-amount .result) (isAmount (s .args .code) (s .args .amount)) (c .before .is-distance .result) (isDistance (categoryOf (s .args .book .now) (s .args .category) .kind) (s .args .distance)) (c .before .before .is-amount .ensures) (sym (of-kind (s .args .book .now) (s .args .category) (read .result) (read .ensures) (c .before .before .before .before .before .before .before .before .before .before .before .if1 .left) (λ k. isDistance k (s .args .distance)) (c .before .is-distance .result) (c .before .is-distance .result) (c .before .is-distance .ensures) refl)) ∙ c .if5 .left)
-
-past-7 : (c : tie.Else6) → Past 7 (c .before .before .before .before .before .before .before .before .before .before .before .before .before .before .before .before)
-past-7 c =
-    let s = c .before .before .before .before .before .before .before .before .before .before .before .before .before .before .before .before in
-    past-6 (c .before .before) ∙ passed 8 (lt-leb mostElements (elements (s .args .book .now)) (c .if6 .left))
-
-shared-slice-read-if1 : tie.Need-shared-slice-read-if1
-shared-slice-read-if1 c = omega (arith, sound-counted (c .before .before .args .book .now) (c .before .before .pre) .long)
-
-returns : tie.Need-returns
-returns c = sym (past-1 (c .before .before .before) ∙ stopped 2 _ (c .if1 .taken))
+category-of-requires : tie.Need-category-of-requires
+category-of-requires c κs = search needs
 
 is-chain-requires : tie.Need-is-chain-requires
 is-chain-requires c κs = search needs
@@ -72,28 +25,8 @@ is-chain-requires c κs = search needs
 is-code-requires : tie.Need-is-code-requires
 is-code-requires c κs = search needs
 
-returns-2 : tie.Need-returns-2
-returns-2 c =
-    let s = c .before .before .before .before .before .before in
-    sym (past-2 (c .before .before .before) ∙ stopped 3 _ (not-is2 (c .before .before .is-chain .result) (isChain (s .args .chain)) (c .before .is-code .result) (isCode (s .args .code)) (c .before .before .is-chain .ensures) (c .before .is-code .ensures) ∙ c .if2 .taken))
-
-category-of-requires : tie.Need-category-of-requires
-category-of-requires c κs = search needs
-
-returns-3 : tie.Need-returns-3
-returns-3 c =
-    let s = c .before .before .before .before .before .before .before .before .before in
-    let read = c .before .before .category-of in
-    sym (past-3 (c .before .before .before) ∙ stopped 4 _ (was-closed (s .args .book .now) (s .args .category) (read .result) (read .ensures) (c .before .before .before .before .before .before .if1 .left) (c .if3 .taken)))
-
 unsuited-requires : tie.Need-unsuited-requires
 unsuited-requires c κs = search needs
-
-returns-4 : tie.Need-returns-4
-returns-4 c =
-    let s = c .before .before .before .before .before .before .before .before .before .before .before in
-    let read = c .before .before .before .before .category-of in
-    sym (past-4 (c .before .before) ∙ stopped 6 _ (of-kind (s .args .book .now) (s .args .category) (read .result) (read .ensures) (c .before .before .before .before .before .before .before .before .if1 .left) (λ k. unsuited k (s .args .code)) (c .before .unsuited .result) true (c .before .unsuited .ensures) (c .if4 .taken)))
 
 is-amount-requires : tie.Need-is-amount-requires
 is-amount-requires c κs = search needs
@@ -101,39 +34,36 @@ is-amount-requires c κs = search needs
 is-distance-requires : tie.Need-is-distance-requires
 is-distance-requires c κs = search needs
 
-returns-5 : tie.Need-returns-5
-returns-5 c =
-    let s = c .before .before .before .before .before .before .before .before .before .before .before .before .before .before in
-    let read = c .before .before .before .before .before .before .before .category-of in
-    sym (past-5 (c .before .before .before) ∙ stopped 7 _ (not-is2 (c .before .before .is-amount .result) (isAmount (s .args .code) (s .args .amount)) (c .before .is-distance .result) (isDistance (categoryOf (s .args .book .now) (s .args .category) .kind) (s .args .distance)) (c .before .before .is-amount .ensures) (sym (of-kind (s .args .book .now) (s .args .category) (read .result) (read .ensures) (c .before .before .before .before .before .before .before .before .before .before .before .if1 .left) (λ k. isDistance k (s .args .distance)) (c .before .is-distance .result) (c .before .is-distance .result) (c .before .is-distance .ensures) refl)) ∙ c .if5 .taken))
+slice-aggregate-first-of : tie.Need-slice-aggregate-first-of
+slice-aggregate-first-of c = search needs
 
-shared-slice-read-if6 : tie.Need-shared-slice-read-if6
-shared-slice-read-if6 c = omega (arith, sound-counted (c .before .before .before .before .before .before .before .before .before .before .before .before .before .before .before .args .book .now) (c .before .before .before .before .before .before .before .before .before .before .before .before .before .before .before .pre) .long)
+slice-aggregate-first-of-2 : tie.Need-slice-aggregate-first-of-2
+slice-aggregate-first-of-2 c = search needs
 
-returns-6 : tie.Need-returns-6
-returns-6 c =
-    let s = c .before .before .before .before .before .before .before .before .before .before .before .before .before .before .before .before in
-    sym (past-6 (c .before .before) ∙ stopped 8 _ (le-leb mostElements (elements (s .args .book .now)) (c .if6 .taken)))
+first-of-requires : tie.Need-first-of-requires
+first-of-requires c κs = search needs
 
-returns-7 : tie.Need-returns-7
-returns-7 c = sym (past-7 c)
+returns : tie.Need-returns
+returns c =
+    let read = c .before .before .before .before .before .before .before .before .before .before .before in
+    let s = read .before .before .before .before in
+    let ws = s .args .book .now in
+    let e = s .args .e in
+    category-grounds ws (e .category) [] (λ k. groundsAfter 2 (groundsBefore 10 (enrolGroundsIn ws e k))) (s .pre) (read .category-of .ensures) cc
 
 pub refusal-number-spec : {M : Type 1} → statement M
 refusal-number-spec =
     tie.close
     (tie.spec
-    shared-slice-read-if1
-    returns
+    shared-slice-read-categories
+    shared-slice-read-elements
+    category-of-requires
     is-chain-requires
     is-code-requires
-    returns-2
-    category-of-requires
-    returns-3
     unsuited-requires
-    returns-4
     is-amount-requires
     is-distance-requires
-    returns-5
-    shared-slice-read-if6
-    returns-6
-    returns-7)
+    slice-aggregate-first-of
+    slice-aggregate-first-of-2
+    first-of-requires
+    returns)

@@ -1,8 +1,7 @@
 -- `book::intensities::intensity` meets its contract: ground 1, and the call on a sound book. Assumes nothing.
-use mathlib.Core.Path.{sym, _∙_}
 use borrow.Author.Needs.{needs}
-use borrow.Author.Tests.{not-true, not-false}
 use Rattle.book_shares.specs.Intensities.{intensityReply, intensityRefusal}
+use Rattle.book.proofs.Refusing.{was-true, was-false}
 use Rattle.book.proofs.intensities.intensity.Statement.{statement}
 use Rattle.book.proofs.intensities.intensity.Tie as tie
 
@@ -11,10 +10,10 @@ is-sound-requires c κs = search needs
 
 returns : tie.Need-returns
 unfolding intensityReply intensityRefusal
-returns c = rw (sym (c .before .is-sound .ensures) ∙ not-true (c .before .is-sound .result) (c .if1 .taken))
+returns c = rw (was-false (c .before .is-sound .ensures) (c .if1 .taken))
 
 intensity-sound-requires : tie.Need-intensity-sound-requires
-intensity-sound-requires c κs = sym (c .before .is-sound .ensures) ∙ not-false (c .before .is-sound .result) (c .if1 .left)
+intensity-sound-requires c κs = was-true (c .before .is-sound .ensures) (c .if1 .left)
 
 returns-2 : tie.Need-returns-2
 returns-2 c = search needs

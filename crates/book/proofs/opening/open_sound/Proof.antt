@@ -2,6 +2,8 @@
 -- Assumes nothing.
 use mathlib.Core.Path.{sym, _∙_}
 use borrow.Author.Needs.{needs}
+use borrow.Author.Tests.{leb-false}
+use Rattle.book_words.specs.Book.{mostCategories}
 use Rattle.book.specs.Calls.{openReply, openBook}
 use Rattle.book_words.proofs.Facts.{sound-counted}
 use Rattle.book.proofs.Accepting.{opened}
@@ -20,19 +22,23 @@ same-length c = search needs
 
 returns : tie.Need-returns
 unfolding openReply openBook
-returns c = call-refused (c .refused .result) (c .before .before .refusal-number .result) _ _ _ (c .before .before .before .before .before .args .book .now) (c .refused .ensures) (c .before .before .refusal-number .ensures) (c .before .if1 .taken)
+returns c = call-refused _ _ (c .refused .ensures) (c .before .before .refusal-number .ensures) (c .before .if1 .taken)
 
 add-category-requires : tie.Need-add-category-requires
 add-category-requires c κs =
-    let ok = opened (c .before .before .before .before .before .args .book .now) (c .before .before .before .before .before .args .kind) (sym (c .before .before .refusal-number .ensures) ∙ c .before .if1 .left) in
-    (sound-counted (c .before .before .before .before .before .args .book .now) (c .before .before .before .before .before .pre) .long, ok .room)
+    let numbered = c .before .before in
+    let s = numbered .before .before .before in
+    let none = opened (s .args .book .now) (s .args .kind) (sym (numbered .refusal-number .ensures) ∙ c .before .if1 .left) in
+    (sound-counted (s .args .book .now) (s .pre) .long, leb-false mostCategories _ (none 8))
 
 same-length-2 : tie.Need-same-length-2
 same-length-2 c = search needs
 
 returns-2 : tie.Need-returns-2
 unfolding openReply openBook
-returns-2 c = call-accepted (c .before .before .add-category .result) (c .before .before .before .before .before .refusal-number .result) _ _ _ (c .before .before .add-category .last .0) (c .before .before .before .before .before .before .before .before .args .book .now) (c .before .before .before .before .before .refusal-number .ensures) (c .before .before .before .before .if1 .left) (c .before .before .add-category .ensures .0) (c .before .before .add-category .ensures .1)
+returns-2 c =
+    let test = c .before .before .before .before in
+    call-accepted _ _ (test .before .refusal-number .ensures) (test .if1 .left) (c .before .before .add-category .ensures)
 
 pub open-sound-spec : {M : Type 1} → statement M
 open-sound-spec =

@@ -1,19 +1,9 @@
 -- `book::posting::post` meets its contract: ground 1, and the call on a sound book. Assumes nothing.
-use mathlib.Core.Bool.{not, true}
-use mathlib.Core.Path.{_≡_, sym, _∙_, ap}
-use native.Mathlib.Omega.{arith}
 use borrow.Author.Needs.{needs}
-use borrow.Author.Tests.{not-true, not-false}
-use Rattle.book_words.specs.Soundness.{sound}
 use Rattle.book.specs.Calls.{postReply, postBook, postRefusal}
-use Rattle.apportion.proofs.Grounds.{stopped}
-use Rattle.book.proofs.Refusing.{call-refused}
+use Rattle.book.proofs.Refusing.{unsound-refused, was-true}
 use Rattle.book.proofs.posting.post.Statement.{statement}
 use Rattle.book.proofs.posting.post.Tie as tie
-
--- past ground 1 the book is sound
-fine : (c : tie.Else1) → sound (c .before .before .before .before .args .book .now) ≡ true
-fine c = sym (c .before .is-sound .ensures) ∙ not-false (c .before .is-sound .result) (c .if1 .left)
 
 is-sound-requires : tie.Need-is-sound-requires
 is-sound-requires c κs = search needs
@@ -26,15 +16,15 @@ same-length c = search needs
 
 returns : tie.Need-returns
 unfolding postReply postBook postRefusal
-returns c =
-    let unsound = sym (c .before .before .is-sound .ensures) ∙ not-true (c .before .before .is-sound .result) (c .before .if1 .taken) in
-    call-refused (c .refused .result) 1 _ _ _ (c .before .before .before .before .before .args .book .now) (c .refused .ensures) (sym (stopped 1 _ (ap not unsound))) (λ z. omega arith)
+returns c = unsound-refused _ _ (c .before .before .is-sound .ensures) (c .before .if1 .taken) _ (c .refused .ensures)
 
 sums-of-requires : tie.Need-sums-of-requires
-sums-of-requires c κs = fine (c .before)
+sums-of-requires c κs = was-true (c .before .before .is-sound .ensures) (c .before .if1 .left)
 
 post-sound-requires : tie.Need-post-sound-requires
-post-sound-requires c κs = (fine (c .before .before .before), c .before .sums-of .ensures)
+post-sound-requires c κs =
+    let test = c .before .before .before in
+    (was-true (test .before .is-sound .ensures) (test .if1 .left), c .before .sums-of .ensures)
 
 same-length-2 : tie.Need-same-length-2
 same-length-2 c = search needs

@@ -1,29 +1,26 @@
--- `book::quoting::quote_sound` meets its contract: the grounds before 10 turn it away, or the quoted element with its capped
--- amounts is admitted or not. Assumes nothing.
-use mathlib.Core.List.{List}
-use mathlib.Core.Path.{sym, _∙_}
+-- `book::quoting::quote_sound` meets its contract: the grounds before 10 turn it away, or the record is admitted or not. Assumes nothing.
+use mathlib.Core.Path.{refl, sym, _∙_}
 use borrow.Author.Needs.{needs}
-use lib.ListN.{take, drop}
-use Rattle.apportion.specs.Grounds.{Ground}
-use Rattle.book.specs.Calls.{quoteGrounds, quoteRefusal, quoteReply, quoteBook}
-use Rattle.book.proofs.Accepting.{Quoted, quote-allowed}
-use Rattle.book.proofs.Admitting.{quote-decided}
+use borrow.Author.Tests.{leb-false}
+use Rattle.apportion.specs.Grounds.{groundsBefore}
+use Rattle.book_words.specs.Book.{addElement, elements, mostElements}
+use Rattle.book_words.specs.Totals.{withElement}
+use Rattle.book.specs.Calls.{quoteGrounds, quoteRefusal, quoteReply, quoteBook, quotedElement}
+use Rattle.apportion.proofs.Grounds.{decided-before, none-holds}
+use Rattle.book.proofs.Accepting.{Passed}
+use Rattle.book.proofs.Admitting.{quote-capped, record-decided}
 use Rattle.book.proofs.Quotes.{quotable}
-use Rattle.book.proofs.Refusing.{counted-refused, earlier}
+use Rattle.book.proofs.Refusing.{counted-refused}
 use Rattle.book.proofs.quoting.quote_sound.Statement.{statement}
 use Rattle.book.proofs.quoting.quote_sound.Tie as tie
 
-abbrev grounds : tie.Start → List Ground
-grounds s = quoteGrounds (s .args .book .now) (s .args .chain) (s .args .adjust) (s .args .mass) (s .args .distance) (s .args .operation-intensity) (s .args .provision-intensity)
-
--- where the call starts, and what holds past the grounds before 10
 abbrev start : tie.Else1 → tie.Start
 start c = c .before .before .before .before
 
-allowed : (c : tie.Else1) → Quoted (start c .args .book .now) (start c .args .chain) (start c .args .adjust) (start c .args .mass) (start c .args .distance) (start c .args .operation-intensity) (start c .args .provision-intensity)
-allowed c =
-    let s = start c in
-    quote-allowed (s .args .book .now) (s .args .chain) (s .args .adjust) (s .args .mass) (s .args .distance) (s .args .operation-intensity) (s .args .provision-intensity) (sym (c .before .refusal-number .ensures) ∙ c .if1 .left)
+-- none of the grounds before 10 held
+passed : (c : tie.Else1) → Passed (groundsBefore 10 (quoteGrounds (start c .args .book .now) (start c .args .q)))
+passed c =
+    none-holds (groundsBefore 10 (quoteGrounds (start c .args .book .now) (start c .args .q))) refl (sym (c .before .refusal-number .ensures) ∙ c .if1 .left)
 
 refusal-number-requires : tie.Need-refusal-number-requires
 refusal-number-requires c κs = search needs
@@ -39,36 +36,31 @@ unfolding quoteRefusal quoteReply quoteBook
 returns c =
     let numbered = c .before .before in
     let s = numbered .before .before .before in
-    let number = numbered .refusal-number .result in
-    counted-refused (c .turned-away .result) number _ _ _ (s .args .book .now) (s .args .sums) (c .turned-away .ensures)
-    (earlier number (take 4 (grounds s)) (drop 4 (grounds s)) (numbered .refusal-number .ensures) (c .before .if1 .taken)) (c .before .if1 .taken) (s .pre .1)
+    let is = decided-before 10 (quoteGrounds (s .args .book .now) (s .args .q)) refl (numbered .refusal-number .ensures) (c .before .if1 .taken) in
+    counted-refused _ _ (c .turned-away .ensures) is (c .before .if1 .taken) (s .pre .1)
 
 quoted-requires : tie.Need-quoted-requires
-quoted-requires c κs =
-    let ok = allowed c in
-    let s = start c in (
-      quotable (s .args .mass) (s .args .distance) (s .args .operation-intensity) (ok .amount-fine) (ok .distance-fine) (ok .operation-fine),
-      quotable (s .args .mass) (s .args .distance) (s .args .provision-intensity) (ok .amount-fine) (ok .distance-fine) (ok .provision-fine),
-    )
+quoted-requires c κs = quotable (start (c .before) .args .q) (passed (c .before) 7)
 
 admit-element-requires : tie.Need-admit-element-requires
 admit-element-requires c κs =
     let test = c .before .before in
-    (start test .pre .0, (start test .pre .1, allowed test .room))
+    let s = start test in
+    (s .pre .0, (s .pre .1, leb-false mostElements (elements (s .args .book .now)) (passed test 8)))
 
 same-length-2 : tie.Need-same-length-2
 same-length-2 c = search needs
 
 returns-2 : tie.Need-returns-2
+unfolding quoteRefusal quoteReply quoteBook
 returns-2 c =
     let put = c .before .before in
-    let made = put .before .before in
-    let test = made .before in
+    let test = put .before .before .before in
     let s = start test in
-    let decided =
-    quote-decided (s .args .book .now) (s .args .chain) (s .args .adjust) (s .args .mass) (s .args .distance) (s .args .operation-intensity) (s .args .provision-intensity) (allowed test)
-    (s .pre .1) (made .quoted .ensures) (put .admit-element .ensures .0) (put .admit-element .ensures .1 .0) in
-    (decided .0, (decided .1, put .admit-element .ensures .1 .1))
+    let q = s .args .q in
+    record-decided withElement addElement (quotedElement q) _ (quoteGrounds (s .args .book .now) q) _ (s .args .book .now) refl refl
+    (test .before .refusal-number .ensures) (test .if1 .left) (s .pre .1) (put .before .quoted .ensures) (quote-capped (s .args .sums) q)
+    (put .admit-element .ensures)
 
 pub quote-sound-spec : {M : Type 1} → statement M
 quote-sound-spec =

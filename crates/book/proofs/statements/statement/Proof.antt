@@ -1,8 +1,8 @@
 -- `book::statements::statement` meets its contract: ground 1, and the call on a sound book. Assumes nothing.
 use mathlib.Core.Path.{sym, _∙_}
 use borrow.Author.Needs.{needs}
-use borrow.Author.Tests.{not-true, not-false}
 use Rattle.book.proofs.Laws.{statement-unsound}
+use Rattle.book.proofs.Refusing.{was-true, was-false}
 use Rattle.book.proofs.statements.statement.Statement.{statement}
 use Rattle.book.proofs.statements.statement.Tie as tie
 
@@ -15,11 +15,10 @@ no-statement-requires c κs = search needs
 returns : tie.Need-returns
 returns c =
     let tested = c .before .before in
-    let s = tested .before .before in
-    c .no-statement .ensures ∙ sym (statement-unsound (s .args .book .now) (s .args .chain) (sym (tested .is-sound .ensures) ∙ not-true (tested .is-sound .result) (c .before .if1 .taken)))
+    c .no-statement .ensures ∙ sym (statement-unsound _ _ (was-false (tested .is-sound .ensures) (c .before .if1 .taken)))
 
 statement-sound-requires : tie.Need-statement-sound-requires
-statement-sound-requires c κs = sym (c .before .is-sound .ensures) ∙ not-false (c .before .is-sound .result) (c .if1 .left)
+statement-sound-requires c κs = was-true (c .before .is-sound .ensures) (c .if1 .left)
 
 returns-2 : tie.Need-returns-2
 returns-2 c = search needs

@@ -1,8 +1,8 @@
 -- `book::statements::statement_sound` meets its contract: ground 3, and the walk. Assumes nothing.
 use mathlib.Core.Path.{sym, _∙_}
 use borrow.Author.Needs.{needs}
-use borrow.Author.Tests.{not-true, not-false}
 use Rattle.book.proofs.Laws.{statement-unknown, statement-accepted}
+use Rattle.book.proofs.Refusing.{was-true, was-false}
 use Rattle.book.proofs.statements.statement_sound.Statement.{statement}
 use Rattle.book.proofs.statements.statement_sound.Tie as tie
 
@@ -15,8 +15,7 @@ no-statement-requires c κs = search needs
 returns : tie.Need-returns
 returns c =
     let tested = c .before .before in
-    let s = tested .before .before in
-    c .no-statement .ensures ∙ sym (statement-unknown (s .args .book .now) (s .args .chain) (s .pre) (sym (tested .is-chain .ensures) ∙ not-true (tested .is-chain .result) (c .before .if1 .taken)))
+    c .no-statement .ensures ∙ sym (statement-unknown _ _ (tested .before .before .pre) (was-false (tested .is-chain .ensures) (c .before .if1 .taken)))
 
 walk-requires : tie.Need-walk-requires
 walk-requires c κs = search needs
@@ -24,8 +23,7 @@ walk-requires c κs = search needs
 returns-2 : tie.Need-returns-2
 returns-2 c =
     let tested = c .before .before in
-    let s = tested .before .before in
-    c .walk .ensures ∙ sym (statement-accepted (s .args .book .now) (s .args .chain) (s .pre) (sym (tested .is-chain .ensures) ∙ not-false (tested .is-chain .result) (c .before .if1 .left)))
+    c .walk .ensures ∙ sym (statement-accepted _ _ (tested .before .before .pre) (was-true (tested .is-chain .ensures) (c .before .if1 .left)))
 
 pub statement-sound-spec : {M : Type 1} → statement M
 statement-sound-spec =

@@ -37,53 +37,57 @@ add-passed c =
 element-of-requires : tie.Need-element-of-requires Inv-loop μ-loop
 element-of-requires c κs = search needs
 
+abbrev start : tie.After-element-of Inv-loop μ-loop → tie.Start Inv-loop μ-loop
+start c = c .before .before .before .before .before
+
 -- the element that was read is the next
-read : (c : tie.After-element-of Inv-loop μ-loop) → c .element-of .result ≡ elementAt (c .before .before .before .before .before .args .book .now) (c .before .before .loop .passed)
-read c = c .element-of .ensures ∙ next-element (c .before .before .before .before .before .args .book .now) (c .before .before .loop .passed) (c .before .loop-test .taken)
+read : (c : tie.After-element-of Inv-loop μ-loop) → c .element-of .result ≡ elementAt (start c .args .book .now) (c .before .before .loop .passed)
+read c = c .element-of .ensures ∙ next-element (start c .args .book .now) (c .before .before .loop .passed) (c .before .loop-test .taken)
 
 loop-less : tie.Need-loop-less Inv-loop μ-loop
 loop-less c = omega arith
 
 loop-again : tie.Need-loop-again Inv-loop μ-loop
 loop-again c =
-    let a = c .before .before .before .before in
-    let s = a .before .before .before in
-    walked-other (s .args .book .now) (s .args .chain) (a .loop .inv) (c .before .before .before .loop-test .taken) _ (read (c .before .before)) (c .if1 .taken)
+    let at = c .before .before in
+    walked-other _ _ (at .before .before .loop .inv) (at .before .loop-test .taken) _ (read at) (c .if1 .taken)
 
 -- what the walk holds after an element of the chain
-turned : (c : tie.Else1 Inv-loop μ-loop) (one : ℕ) → one ≡ oneIf (waits (c .before .before .before .before .before .before .before .args .book .now) (c .before .before .element-of .result))
-    → Walked (c .before .before .before .before .before .before .before .args .book .now) (c .before .before .before .before .before .before .before .args .chain) (c .before .before .before .before .loop .passed + 1)
+turned : (c : tie.Else1 Inv-loop μ-loop) (one : ℕ) → one ≡ oneIf (waits (start (c .before .before) .args .book .now) (c .before .before .element-of .result))
+    → Walked (start (c .before .before) .args .book .now) (start (c .before .before) .args .chain) (c .before .before .before .before .loop .passed + 1)
     (c .before .before .before .before .loop .elements + 1) (c .before .before .before .before .loop .waiting + one)
-    (c .before .before .before .before .loop .operation + c .before .before .element-of .result .operation) (c .before .before .before .before .loop .provision + c .before .before .element-of .result .provision)
+    (c .before .before .before .before .loop .operation + c .before .before .element-of .result .operation)
+    (c .before .before .before .before .loop .provision + c .before .before .element-of .result .provision)
 turned c one waited =
-    let a = c .before .before .before .before in
-    let s = a .before .before .before in
-    walked-own (s .args .book .now) (s .args .chain) (a .loop .inv) (c .before .before .before .loop-test .taken) _ (read (c .before .before)) (c .if1 .left) one waited
+    let at = c .before .before in
+    walked-own _ _ (at .before .before .loop .inv) (at .before .loop-test .taken) _ (read at) (c .if1 .left) one waited
 
 add-elements : tie.Need-add-elements Inv-loop μ-loop
 add-elements c =
-    let s = c .before .before .before .before .before .before .before in
+    let s = start (c .before .before) in
     omega (arith, walked-fits (s .args .book .now) (s .args .chain) (turned c _ refl), sound-counted (s .args .book .now) (s .pre))
 
 waiting-of-requires : tie.Need-waiting-of-requires Inv-loop μ-loop
 waiting-of-requires c κs =
-    let a = c .before .before .before .before in
-    let s = a .before .before .before in
-    (s .pre, omega (arith, ap (λ (r : Element). r .category) (read (c .before .before)), category-inside (s .args .book .now) (s .pre) (a .loop .passed) (c .before .before .before .loop-test .taken)))
+    let at = c .before .before in
+    let s = start at in
+    let inside = category-inside (s .args .book .now) (s .pre) (at .before .before .loop .passed) (at .before .loop-test .taken) in
+    (s .pre, omega (arith, ap (λ (r : Element). r .category) (read at), inside))
 
 add-waiting : tie.Need-add-waiting Inv-loop μ-loop
 add-waiting c =
-    let s = c .before .before .before .before .before .before .before .before in
-    omega (arith, walked-fits (s .args .book .now) (s .args .chain) (turned (c .before) _ (c .waiting-of .ensures)), sound-counted (s .args .book .now) (s .pre))
+    let s = start (c .before .before .before) in
+    let fits = walked-fits (s .args .book .now) (s .args .chain) (turned (c .before) _ (c .waiting-of .ensures)) in
+    omega (arith, fits, sound-counted (s .args .book .now) (s .pre))
 
 add-operation : tie.Need-add-operation Inv-loop μ-loop
 add-operation c =
-    let s = c .before .before .before .before .before .before .before .before .before in
+    let s = start (c .before .before .before .before) in
     omega (arith, walked-most (s .args .book .now) (s .args .chain) (s .pre) (turned (c .before .before) _ refl))
 
 add-provision : tie.Need-add-provision Inv-loop μ-loop
 add-provision c =
-    let s = c .before .before .before .before .before .before .before .before .before .before in
+    let s = start (c .before .before .before .before .before) in
     omega (arith, walked-most (s .args .book .now) (s .args .chain) (s .pre) (turned (c .before .before .before) _ refl))
 
 loop-less-2 : tie.Need-loop-less-2 Inv-loop μ-loop

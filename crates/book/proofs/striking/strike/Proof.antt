@@ -1,10 +1,7 @@
 -- `book::striking::strike` meets its contract: ground 1, and the call on a sound book. Assumes nothing.
-use mathlib.Core.Bool.{not}
-use mathlib.Core.Path.{sym, _∙_, ap}
 use borrow.Author.Needs.{needs}
-use borrow.Author.Tests.{not-true, not-false}
 use Rattle.book.specs.Calls.{strikeBook, strikeRefusal}
-use Rattle.apportion.proofs.Grounds.{stopped}
+use Rattle.book.proofs.Refusing.{unsound-alone, was-true}
 use Rattle.book.proofs.striking.strike.Statement.{statement}
 use Rattle.book.proofs.striking.strike.Tie as tie
 
@@ -16,12 +13,10 @@ same-length c = search needs
 
 returns : tie.Need-returns
 unfolding strikeBook strikeRefusal
-returns c =
-    let unsound = sym (c .before .is-sound .ensures) ∙ not-true (c .before .is-sound .result) (c .if1 .taken) in
-    (sym (stopped 1 _ (ap not unsound)), rw unsound)
+returns c = unsound-alone _ _ (c .before .is-sound .ensures) (c .if1 .taken)
 
 strike-sound-requires : tie.Need-strike-sound-requires
-strike-sound-requires c κs = sym (c .before .before .is-sound .ensures) ∙ not-false (c .before .before .is-sound .result) (c .before .if1 .left)
+strike-sound-requires c κs = was-true (c .before .before .is-sound .ensures) (c .before .if1 .left)
 
 same-length-2 : tie.Need-same-length-2
 same-length-2 c = search needs

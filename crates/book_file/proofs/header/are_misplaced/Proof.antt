@@ -31,21 +31,15 @@ is-misplaced-requires-3 c κs = search needs
 returns : tie.Need-returns
 unfolding wrongSections
 returns c =
-    let end2 = c .before in
-    let second = end2 .before in
-    let end1 = second .before in
-    let first = end1 .before in
-    let elements = first .before in
-    let entries = elements .before in
     rw (
       c .is-misplaced3 .ensures,
-      end2 .end2 .ensures,
-      second .is-misplaced2 .ensures,
-      end1 .end .ensures,
-      first .is-misplaced .ensures,
-      elements .elements .ensures .0,
-      entries .entries .ensures .0,
-      entries .before .categories .ensures .0,
+      c .before .end2 .ensures,
+      c .before .before .is-misplaced2 .ensures,
+      c .before .before .before .end .ensures,
+      c .before .before .before .before .is-misplaced .ensures,
+      c .before .before .before .before .before .elements .ensures .0,
+      c .before .before .before .before .before .before .entries .ensures .0,
+      c .before .before .before .before .before .before .before .categories .ensures .0,
     )
 
 pub are-misplaced-spec : {M : Type 1} → statement M

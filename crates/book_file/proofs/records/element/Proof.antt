@@ -49,23 +49,7 @@ u64-at-requires-4 : tie.Need-u64-at-requires-4
 u64-at-requires-4 c κs = search needs
 
 returns : tie.Need-returns
-returns c =
-    let c7 = c .before in
-    let c6 = c7 .before in
-    let c5 = c6 .before in
-    let c4 = c5 .before in
-    let c3 = c4 .before in
-    let c2 = c3 .before in
-    rw (
-      c .u64-at4 .ensures,
-      c7 .u64-at3 .ensures,
-      c6 .u64-at2 .ensures,
-      c5 .u64-at .ensures,
-      c4 .u32-at4 .ensures .0,
-      c3 .u32-at3 .ensures .0,
-      c2 .u32-at2 .ensures .0,
-      c2 .before .u32-at .ensures .0,
-    )
+returns c = cc
 
 pub element-spec : {M : Type 1} → statement M
 element-spec =

@@ -31,17 +31,7 @@ u64-at-requires-3 : tie.Need-u64-at-requires-3
 u64-at-requires-3 c κs = search needs
 
 returns : tie.Need-returns
-returns c =
-    let c4 = c .before in
-    let c3 = c4 .before in
-    let c2 = c3 .before in
-    rw (
-      c .u64-at3 .ensures,
-      c4 .u64-at2 .ensures,
-      c3 .u64-at .ensures,
-      c2 .u32-at2 .ensures .0,
-      c2 .before .u32-at .ensures .0,
-    )
+returns c = cc
 
 pub entry-spec : {M : Type 1} → statement M
 entry-spec =

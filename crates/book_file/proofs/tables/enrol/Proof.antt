@@ -1,11 +1,9 @@
 -- `book_file::tables::enrol` meets its contract. Ground 13 comes first; then the call is as
 -- `enrol_sound` ensures. Assumes nothing.
-use mathlib.Core.Path.{_∙_, ap, sym}
+use mathlib.Core.Path.{sym}
 use borrow.Author.Needs.{needs}
-use Rattle.book.specs.declared.replies.Reply.{Reply}
-use Rattle.book_file.specs.declared.tables.Reached.{Reached}
 use Rattle.book_file.specs.Loading.{enrolling}
-use Rattle.book_file.proofs.Carrying.{made-broken, call-made}
+use Rattle.book_file.proofs.Carrying.{made-broken, counted-made}
 use Rattle.book_file.proofs.tables.enrol.Statement.{statement}
 use Rattle.book_file.proofs.tables.enrol.Tie as tie
 
@@ -28,13 +26,8 @@ returns-2 c =
     let called = c .before .before .before in
     let test = called .before .before in
     let args = test .before .before .before .before .before .args in
-    let whole = called .enrol-sound .ensures in
-    let at = c .counted-at .ensures in (
-      call-made (args .book .now) (enrolling (args .number) (args .element)) (test .if1 .left)
-          (ap (λ (r : Reply). r .refusal) (whole .0), whole .1 .0)
-          (ap (λ (r : Reached). r .answer) at),
-      ap (λ (r : Reached). r .sums) at ∙ whole .1 .1,
-    )
+    counted-made (args .book .now) (enrolling (args .number) (args .element)) (test .if1 .left)
+    (called .enrol-sound .ensures) (c .counted-at .ensures)
 
 pub enrol-spec : {M : Type 1} → statement M
 enrol-spec =

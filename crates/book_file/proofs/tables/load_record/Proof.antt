@@ -1,24 +1,35 @@
 -- `book_file::tables::load_record` meets its contract: by cases on the table, at the position of the record. Assumes nothing.
-use mathlib.Core.Path.{_≡_, _∙_, ap}
-use Prim.Native.Nat.{_+_}
+use mathlib.Core.Path.{_≡_, refl, sym, _∙_, ap}
+use mathlib.Core.List.{List}
+use Prim.Native.Nat.{ℕ, _+_}
 use borrow.Author.Needs.{needs}
 use Rattle.book_file.specs.declared.header.Section.{Section}
-use Rattle.book_file.specs.declared.records.CategoryRecord.{CategoryRecord}
-use Rattle.book_file.specs.declared.records.EntryRecord.{EntryRecord}
-use Rattle.book_file.specs.declared.records.ElementRecord.{ElementRecord}
 use Rattle.book_file.specs.declared.tables.Table.{Table}
 use Rattle.book_file.specs.File.{recordAt, categoryRecord, entryRecord, elementRecord}
-use Rattle.book_file.specs.Loading.{sectionOf, opening, posting, enrollingOrQuoting, made, madeClosing}
+use Rattle.book_file.specs.Loading.{Loading, sectionOf, opening, posting, enrollingOrQuoting, made, madeClosing, madeAt}
 use Rattle.book_file.proofs.Carrying.{opening-sums, closing-sums, known-still}
 use Rattle.book_file.proofs.tables.load_record.Statement.{statement}
 use Rattle.book_file.proofs.tables.load_record.Tie as tie
 
--- where the record starts, in the section of its table
-position : (c : tie.After-record-at)
-    → c .record-at .result ≡ recordAt (sectionOf (c .before .before .before .args .file .now) (c .before .before .before .args .table)) (c .before .before .before .args .place)
-position c =
-    let s = c .before .before .before in
-    c .record-at .ensures .0 ∙ ap (λ (of : Section). recordAt of (s .args .place)) (s .pre .1 .1 .0)
+-- a record that was read at its position is that of its table's section: what was done with it is what its place asks for
+module _ (c : tie.After-record-at) where
+  abbrev start : tie.Start
+  start = c .before .before .before
+
+  done-at : {A B : Type 0} {r : A} {loading : Loading} {t : Table} (read : List ℕ → ℕ → A) (task : List ℕ → ℕ → A → Loading)
+      → start .args .table ≡ t
+      → r ≡ read (start .args .file .now) (c .record-at .result)
+      → (loading ≡ task (start .args .book .now) (start .args .place + 1) r) × B
+      → task (start .args .book .now) (start .args .place + 1)
+      (read (start .args .file .now) (recordAt (sectionOf (start .args .file .now) t) (start .args .place)))
+      ≡ madeAt (start .args .book .now) (start .args .file .now) t (start .args .place)
+      → (loading ≡ madeAt (start .args .book .now) (start .args .file .now) (start .args .table) (start .args .place)) × B
+  done-at read task told is done asked =
+      let a = start .args in
+      let section = start .pre .1 .1 .0 ∙ ap (sectionOf (a .file .now)) told in
+      let same = is ∙ ap (read (a .file .now)) (c .record-at .ensures .0 ∙ ap (λ (s : Section). recordAt s (a .place)) section) in
+      let here = asked ∙ ap (λ (t : Table). madeAt (a .book .now) (a .file .now) t (a .place)) (sym told) in
+      (done .0 ∙ ap (task (a .book .now) (a .place + 1)) same ∙ here, done .1)
 
 record-at-requires : tie.Need-record-at-requires
 record-at-requires c κs = search needs
@@ -67,76 +78,40 @@ same-length c = search needs
 
 returns : tie.Need-returns
 returns c =
-    let called = c .before .before in
-    let read = called .before in
-    let told = read .before .before in
-    let at = told .before .before in
-    let s = at .before .before .before in
-    let args = s .args in
-    let is = told .enum-told .given .1 in
-    let there = position at ∙ ap (λ (t : Table). recordAt (sectionOf (args .file .now) t) (args .place)) is in
-    let whole = called .«open» .ensures in (
-      rw is
-          (whole ∙ ap (λ (r : CategoryRecord). made (args .book .now) (opening (args .place + 1) r)) (read .category .ensures ∙ ap (categoryRecord (args .file .now)) there)),
-      known-still (args .book .now) (called .«open» .last .0) _ (s .pre .1 .0) whole (opening-sums (args .book .now) (args .place + 1) (read .category .result)),
-    )
+    let read = c .before .before .before in
+    let at = read .before .before .before .before in
+    let a = start at .args in
+    done-at at categoryRecord (λ ws k r. made ws (opening k r)) (read .before .before .enum-told .given .1) (read .category .ensures)
+    (known-still (start at .pre .1 .0) (c .before .before .«open» .ensures) (opening-sums (a .book .now) (a .place + 1) (read .category .result))) refl
 
 same-length-2 : tie.Need-same-length-2
 same-length-2 c = search needs
 
 returns-2 : tie.Need-returns-2
 returns-2 c =
-    let called = c .before .before in
-    let read = called .before in
-    let told = read .before .before in
-    let at = told .before .before in
-    let s = at .before .before .before in
-    let args = s .args in
-    let is = told .enum-told2 .given .1 in
-    let there = position at ∙ ap (λ (t : Table). recordAt (sectionOf (args .file .now) t) (args .place)) is in
-    let whole = called .post .ensures in (
-      rw is
-          (whole .0 ∙ ap (λ (r : EntryRecord). made (args .book .now) (posting (args .place + 1) r)) (read .entry .ensures ∙ ap (entryRecord (args .file .now)) there)),
-      whole .1,
-    )
+    let read = c .before .before .before in
+    done-at (read .before .before .before .before) entryRecord (λ ws k r. made ws (posting k r))
+    (read .before .before .enum-told2 .given .1) (read .entry .ensures) (c .before .before .post .ensures) refl
 
 same-length-3 : tie.Need-same-length-3
 same-length-3 c = search needs
 
 returns-3 : tie.Need-returns-3
 returns-3 c =
-    let called = c .before .before in
-    let read = called .before in
-    let told = read .before .before in
-    let at = told .before .before in
-    let s = at .before .before .before in
-    let args = s .args in
-    let is = told .enum-told3 .given .1 in
-    let there = position at ∙ ap (λ (t : Table). recordAt (sectionOf (args .file .now) t) (args .place)) is in
-    let whole = called .enrol-or-quote .ensures in (
-      rw is
-          (whole .0 ∙ ap (λ (r : ElementRecord). made (args .book .now) (enrollingOrQuoting (args .place + 1) r)) (read .element .ensures ∙ ap (elementRecord (args .file .now)) there)),
-      whole .1,
-    )
+    let read = c .before .before .before in
+    done-at (read .before .before .before .before) elementRecord (λ ws k r. made ws (enrollingOrQuoting k r))
+    (read .before .before .enum-told3 .given .1) (read .element .ensures) (c .before .before .enrol-or-quote .ensures) refl
 
 same-length-4 : tie.Need-same-length-4
 same-length-4 c = search needs
 
 returns-4 : tie.Need-returns-4
 returns-4 c =
-    let called = c .before .before in
-    let read = called .before in
-    let told = read .before .before in
-    let at = told .before .before in
-    let s = at .before .before .before in
-    let args = s .args in
-    let is = told .enum-told4 .given .1 in
-    let there = position at ∙ ap (λ (t : Table). recordAt (sectionOf (args .file .now) t) (args .place)) is in
-    let whole = called .close .ensures in (
-      rw is
-          (whole ∙ ap (madeClosing (args .book .now) (args .place + 1)) (read .category2 .ensures ∙ ap (categoryRecord (args .file .now)) there)),
-      known-still (args .book .now) (called .close .last .0) _ (s .pre .1 .0) whole (closing-sums (args .book .now) (args .place + 1) (read .category2 .result)),
-    )
+    let read = c .before .before .before in
+    let at = read .before .before .before .before in
+    let a = start at .args in
+    done-at at categoryRecord madeClosing (read .before .before .enum-told4 .given .1) (read .category2 .ensures)
+    (known-still (start at .pre .1 .0) (c .before .before .close .ensures) (closing-sums (a .book .now) (a .place + 1) (read .category2 .result))) refl
 
 pub load-record-spec : {M : Type 1} → statement M
 load-record-spec =

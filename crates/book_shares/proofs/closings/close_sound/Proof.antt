@@ -1,13 +1,14 @@
 -- `book_shares::closings::close_sound` meets its contract: a ground before 9 refuses, and else the elements that are listed are
 -- those of the category. Assumes nothing.
-use mathlib.Core.Path.{sym, _∙_}
+use mathlib.Core.Path.{refl, sym, _∙_}
 use Prim.Native.Nat.{_≤_}
 use native.Mathlib.Omega.{arith}
 use lib.ListN.{length}
 use lib.Seq.{length-take-le}
 use borrow.Author.Needs.{needs}
+use Rattle.book_shares.specs.Closing.{closeGrounds, closeRefusal}
+use Rattle.apportion.proofs.Grounds.{decided-before}
 use Rattle.book_words.proofs.Facts.{sound-counted}
-use Rattle.book_shares.proofs.Closable.{earlier-refused}
 use Rattle.book_shares.proofs.Laws.{close-refused}
 use Rattle.book_shares.proofs.Listed.{front-taken, members-few}
 use Rattle.book_shares.proofs.closings.close_sound.Statement.{statement}
@@ -26,9 +27,11 @@ same-length : tie.Need-same-length
 same-length c = search needs
 
 returns : tie.Need-returns
+unfolding closeRefusal
 returns c =
     let s = c .before .before .before .before in
-    let number = earlier-refused (s .args .book .now) (s .args .category) _ (c .before .refusal-number .ensures) (c .if1 .taken) in
+    let grounds = closeGrounds (s .args .book .now) (s .args .category) in
+    let number = decided-before 9 grounds refl (c .before .refusal-number .ensures) (c .if1 .taken) in
     (number, sym (close-refused (s .args .book .now) (s .args .category) (λ z. c .if1 .taken (number ∙ z))))
 
 slice-aggregate-list-members : tie.Need-slice-aggregate-list-members
@@ -46,7 +49,12 @@ slice-aggregate-close-members : tie.Need-slice-aggregate-close-members
 slice-aggregate-close-members c = sym (length-take-le _ _ (few (c .before .before .before)))
 
 close-members-requires : tie.Need-close-members-requires
-close-members-requires c κs = (sym (c .before .before .before .before .before .before .before .refusal-number .ensures) ∙ c .before .before .before .before .before .before .if1 .left, front-taken _ _ _ _ (c .before .before .before .list-members .ensures .0) (c .before .before .before .list-members .ensures .1))
+close-members-requires c κs =
+    let listed = c .before .before .before in
+    let chosen = listed .before .before .before in (
+      sym (chosen .before .refusal-number .ensures) ∙ chosen .if1 .left,
+      front-taken _ _ _ _ (listed .list-members .ensures .0) (listed .list-members .ensures .1),
+    )
 
 same-length-2 : tie.Need-same-length-2
 same-length-2 c = search needs

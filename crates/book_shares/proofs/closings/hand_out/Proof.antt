@@ -1,28 +1,27 @@
 -- `book_shares::closings::hand_out` meets its contract: up to a place in the list the elements have their shares.
 -- Assumes nothing.
-use mathlib.Core.List.{List}
-use mathlib.Core.Path.{_≡_, refl, ap, _∙_}
-use Prim.Native.Nat.{_≤_, _-_, ℕ}
+use Prim.Native.Nat.{_-_}
 use native.Mathlib.Omega.{arith}
 use lib.ListN.{length}
 use borrow.Author.Needs.{needs}
-use Rattle.apportion.specs.Places.{at}
-use Rattle.book_words.specs.Book.{putShares}
-use Rattle.book_shares.specs.Dealing.{listsBySide, handOutTo}
+use Rattle.book_shares.specs.Dealing.{listsBySide}
 use Rattle.book_words.proofs.Facts.{sound-counted}
-use Rattle.book_shares.proofs.Handing.{handed-length, handed-next}
+use Rattle.book_shares.proofs.Handing.{Handing, handing-start, handing-length, handing-next, handing-done}
 use Rattle.book_shares.proofs.Listed.{listed-inside}
 use Rattle.book_shares.proofs.closings.hand_out.Statement.{statement}
 use Rattle.book_shares.proofs.closings.hand_out.Tie as tie
 
 abbrev Inv-loop : tie.InvT-loop
-Inv-loop book₀ members operation provision next₀ book next = (next ≤ length members) × (book ≡ handOutTo members next book₀ (listsBySide operation provision))
+Inv-loop book₀ members operation provision next₀ book next = Handing members book₀ (listsBySide operation provision) next book
 
 abbrev μ-loop : tie.MeasureT-loop
 μ-loop book₀ members operation provision next₀ book next = length members - next
 
+abbrev start : tie.In-loop Inv-loop μ-loop → tie.Start Inv-loop μ-loop
+start c = c .before .before .before .before .before .before
+
 loop-holds : tie.Need-loop-holds Inv-loop μ-loop
-loop-holds c = (omega arith, refl)
+loop-holds c = handing-start _ _ _
 
 mul-give-shares : tie.Need-mul-give-shares Inv-loop μ-loop
 mul-give-shares c = search needs
@@ -34,22 +33,26 @@ mul-give-shares-2 : tie.Need-mul-give-shares-2 Inv-loop μ-loop
 mul-give-shares-2 c = search needs
 
 shared-slice-read-give-shares-2 : tie.Need-shared-slice-read-give-shares-2 Inv-loop μ-loop
-shared-slice-read-give-shares-2 c = omega (arith, c .before .before .before .loop-test .taken, c .before .before .before .before .before .before .before .before .before .pre .1 .1)
+shared-slice-read-give-shares-2 c =
+    let turn = c .before .before .before in
+    omega (arith, turn .loop-test .taken, start turn .pre .1 .1)
 
 mul-give-shares-3 : tie.Need-mul-give-shares-3 Inv-loop μ-loop
 mul-give-shares-3 c = search needs
 
 shared-slice-read-give-shares-3 : tie.Need-shared-slice-read-give-shares-3 Inv-loop μ-loop
-shared-slice-read-give-shares-3 c = omega (arith, c .before .before .before .before .loop-test .taken, c .before .before .before .before .before .before .before .before .before .before .pre .1 .1)
+shared-slice-read-give-shares-3 c =
+    let turn = c .before .before .before .before in
+    omega (arith, turn .loop-test .taken, start turn .pre .1 .1)
 
 give-shares-requires : tie.Need-give-shares-requires Inv-loop μ-loop
 give-shares-requires c κs =
-    let s = c .before .before .before .before .before .before .before .before .before .before in
     let turn = c .before .before .before .before in
-    let counts = sound-counted (s .args .book .now) (s .pre .0) in
-    let long = handed-length (s .args .members .now) (s .args .book .now) (listsBySide (s .args .operation .now) (s .args .provision .now)) (turn .before .loop .next) in
-    let there = listed-inside (s .args .book .now) (s .args .members .now) (s .pre .0) (s .pre .1 .0) (turn .before .loop .next) (turn .loop-test .taken) in
-    (omega (arith, counts, long, ap length (turn .before .loop .inv .1)), omega (arith, there, counts))
+    let s = start turn in
+    let ws = s .args .book .now in
+    let counts = sound-counted ws (s .pre .0) in
+    let there = listed-inside ws (s .args .members .now) (s .pre .0) (s .pre .1 .0) (turn .before .loop .next) (turn .loop-test .taken) in
+    (omega (arith, counts, handing-length (turn .before .loop .inv)), omega (arith, there, counts))
 
 add-next : tie.Need-add-next Inv-loop μ-loop
 add-next c = search needs
@@ -59,25 +62,14 @@ loop-less c = omega arith
 
 loop-again : tie.Need-loop-again Inv-loop μ-loop
 loop-again c =
-    let s = c .before .before .before .before .before .before .before .before .before .before .before .before .before in
     let turn = c .before .before .before .before .before .before .before in
-    let next = turn .before .loop .next in (
-      omega (arith, turn .loop-test .taken),
-      c .before .before .give-shares .ensures
-          ∙ ap (λ (ws : List ℕ). putShares ws (at (s .args .members .now) next) (at (s .args .operation .now) next) (at (s .args .provision .now) next)) (turn .before .loop .inv .1)
-          ∙ handed-next (s .args .members .now) (s .args .book .now) (listsBySide (s .args .operation .now) (s .args .provision .now)) next,
-    )
+    handing-next (turn .before .loop .inv) _ (turn .loop-test .taken) (c .before .before .give-shares .ensures)
 
 same-length : tie.Need-same-length Inv-loop μ-loop
-same-length c =
-    let s = c .before .before .before .before .before .before in
-    ap length (c .before .loop .inv .1) ∙ handed-length (s .args .members .now) (s .args .book .now) (listsBySide (s .args .operation .now) (s .args .provision .now)) (c .before .loop .next)
+same-length c = handing-length (c .before .loop .inv)
 
 returns : tie.Need-returns Inv-loop μ-loop
-returns c =
-    let s = c .before .before .before .before .before .before in
-    let end : c .before .loop .next ≡ length (s .args .members .now) = omega (arith, c .before .loop .inv .0, c .loop-test .left) in
-    c .before .loop .inv .1 ∙ ap (λ (n : ℕ). handOutTo (s .args .members .now) n (s .args .book .now) (listsBySide (s .args .operation .now) (s .args .provision .now))) end
+returns c = handing-done (c .before .loop .inv) (c .loop-test .left)
 
 pub hand-out-spec : {M : Type 1} → statement M
 hand-out-spec =

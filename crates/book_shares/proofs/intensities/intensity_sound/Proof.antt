@@ -1,14 +1,16 @@
 -- `book_shares::intensities::intensity_sound` meets its contract: a ground before 9 refuses, and else the elements that are listed
 -- are those of the category. Assumes nothing.
-use mathlib.Core.Path.{sym, _∙_}
+use mathlib.Core.Path.{refl, sym, _∙_}
 use Prim.Native.Nat.{_≤_}
 use native.Mathlib.Omega.{arith}
 use lib.ListN.{length}
 use lib.Seq.{length-take-le}
 use borrow.Author.Needs.{needs}
+use Rattle.book_shares.specs.Intensities.{intensityGrounds, intensityRefusal}
+use Rattle.apportion.proofs.Grounds.{decided-before}
 use Rattle.book_words.proofs.Facts.{sound-counted}
 use Rattle.book_shares.proofs.Listed.{front-taken, members-few}
-use Rattle.book_shares.proofs.Results.{reply-refused, earlier-refused}
+use Rattle.book_shares.proofs.Results.{reply-refused}
 use Rattle.book_shares.proofs.intensities.intensity_sound.Statement.{statement}
 use Rattle.book_shares.proofs.intensities.intensity_sound.Tie as tie
 
@@ -25,10 +27,13 @@ refused-requires : tie.Need-refused-requires
 refused-requires c κs = search needs
 
 returns : tie.Need-returns
+unfolding intensityRefusal
 returns c =
     let s = c .before .before .before .before in
-    c .refused .ensures
-    ∙ reply-refused (s .args .book .now) (s .args .category) (s .args .code) _ (earlier-refused (s .args .book .now) (s .args .category) (s .args .code) _ (c .before .before .refusal-number .ensures) (c .before .if1 .taken)) (c .before .if1 .taken)
+    let given = c .before .before .refusal-number .ensures in
+    let grounds = intensityGrounds (s .args .book .now) (s .args .category) (s .args .code) in
+    let number = decided-before 9 grounds refl given (c .before .if1 .taken) in
+    c .refused .ensures ∙ reply-refused (s .args .book .now) (s .args .category) (s .args .code) _ number (c .before .if1 .taken)
 
 slice-aggregate-list-members : tie.Need-slice-aggregate-list-members
 slice-aggregate-list-members c = search needs
@@ -45,7 +50,12 @@ slice-aggregate-measure-members : tie.Need-slice-aggregate-measure-members
 slice-aggregate-measure-members c = sym (length-take-le _ _ (few (c .before .before)))
 
 measure-members-requires : tie.Need-measure-members-requires
-measure-members-requires c κs = (sym (c .before .before .before .before .before .refusal-number .ensures) ∙ c .before .before .before .before .if1 .left, front-taken _ _ _ _ (c .before .before .list-members .ensures .0) (c .before .before .list-members .ensures .1))
+measure-members-requires c κs =
+    let listed = c .before .before in
+    let chosen = listed .before .before in (
+      sym (chosen .before .refusal-number .ensures) ∙ chosen .if1 .left,
+      front-taken _ _ _ _ (listed .list-members .ensures .0) (listed .list-members .ensures .1),
+    )
 
 returns-2 : tie.Need-returns-2
 returns-2 c = c .measure-members .ensures

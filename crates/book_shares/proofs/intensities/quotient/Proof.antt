@@ -46,7 +46,10 @@ loop-less : tie.Need-loop-less Inv-loop μ-loop
 loop-less c = omega arith
 
 loop-again : tie.Need-loop-again Inv-loop μ-loop
-loop-again c = shifting-next (c .before .before .before .loop .inv) (c .before .before .before .before .before .pre .0) (c .before .before .loop-test .taken) (c .before .multiply .ensures) (c .add2 .ensures)
+loop-again c =
+    let turn = c .before .before in
+    shifting-next (turn .before .loop .inv) (turn .before .before .before .pre .0) (turn .loop-test .taken) (c .before .multiply .ensures)
+    (c .add2 .ensures)
 
 mul-add : tie.Need-mul-add Inv-loop μ-loop
 mul-add c = omega (arith, c .before .loop .inv .less, c .before .before .before .pre)

@@ -22,7 +22,11 @@ abbrev listedTo : List ℕ → ℕ → ℕ → List ℕ
 listedTo ws category n = keptBelow n (isMember ws category) (λ p. p)
 
 abbrev Inv-loop : tie.InvT-loop
-Inv-loop book category places₀ count listed₀ place₀ places listed place = (place ≤ count) × (length places ≡ length places₀) × (listed ≡ length (listedTo book category place)) × (places ≡ startingWith (listedTo book category place) places₀)
+Inv-loop book category places₀ count listed₀ place₀ places listed place =
+    (place ≤ count)
+    × (length places ≡ length places₀)
+    × (listed ≡ length (listedTo book category place))
+    × (places ≡ startingWith (listedTo book category place) places₀)
 
 abbrev μ-loop : tie.MeasureT-loop
 μ-loop book category places₀ count listed₀ place₀ places listed place = count - place
@@ -60,11 +64,13 @@ loop-again c =
     let place = turn .before .loop .place in
     let xs = listedTo (s .args .book .now) (s .args .category) place in
     let t = isMember (s .args .book .now) (s .args .category) place in
-    let inv = turn .before .loop .inv in (
+    let inv = turn .before .loop .inv in
+    let within : length xs < length (s .args .places .now) = omega (arith, room turn, inv .1, inv .2) in (
       omega (arith, turn .loop-test .taken),
       c .before .before .list-place .kept .1 .1 .1 .0 ∙ inv .1,
       rw add-one (c .before .before .list-place .ensures .0 ∙ ap (λ (n : ℕ). n + oneIf t) (inv .2) ∙ front-length t xs place),
-      rw add-one (front-grown t xs (s .args .places .now) (turn .before .loop .places) _ (turn .before .loop .listed) place (inv .3) (inv .2) (omega (arith, room turn, inv .1, inv .2)) (c .before .before .list-place .ensures .1)),
+      rw add-one
+          (front-grown t xs (s .args .places .now) _ _ _ place (inv .3) (inv .2) within (c .before .before .list-place .ensures .1)),
     )
 
 same-length : tie.Need-same-length Inv-loop μ-loop

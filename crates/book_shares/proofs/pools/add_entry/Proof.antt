@@ -30,11 +30,14 @@ add-requires-3 c κs = search needs
 
 returns-2 : tie.Need-returns-2
 returns-2 c =
+    let two = c .before .before in
+    let one = two .before .before in
+    let pools = one .before .before .before .before .args .pools in
     rw (
-      c .before .before .before .before .add .ensures ∙ ap (λ (n : ℕ). capped (c .before .before .before .before .before .before .before .before .args .pools .all + n)) (c .before .before .before .before .before .pooled .ensures),
-      c .before .before .add2 .ensures ∙ ap (λ (n : ℕ). capped (c .before .before .before .before .before .before .before .before .args .pools .chilled + n)) (c .before .before .before .pooled2 .ensures),
-      c .add3 .ensures ∙ ap (λ (n : ℕ). capped (c .before .before .before .before .before .before .before .before .args .pools .frozen + n)) (c .before .pooled3 .ensures),
-      eq-eqb _ _ (c .before .before .before .before .before .before .if1 .left),
+      one .add .ensures ∙ ap (λ (n : ℕ). capped (pools .all + n)) (one .before .pooled .ensures),
+      two .add2 .ensures ∙ ap (λ (n : ℕ). capped (pools .chilled + n)) (two .before .pooled2 .ensures),
+      c .add3 .ensures ∙ ap (λ (n : ℕ). capped (pools .frozen + n)) (c .before .pooled3 .ensures),
+      eq-eqb _ _ (one .before .before .if1 .left),
     )
 
 pub add-entry-spec : {M : Type 1} → statement M

@@ -1,43 +1,45 @@
 -- `book_shares::sharing::add_parts` meets its contract: up to a place each share has its part. Assumes nothing.
-use mathlib.Core.List.{List}
-use mathlib.Core.Path.{_≡_, refl, _∙_, ap}
-use Prim.Native.Nat.{_≤_, _+_, _-_, _<_, ℕ}
+use mathlib.Core.Path.{refl, ap}
+use Prim.Native.Nat.{ℕ, _+_, _-_, _<_}
 use native.Mathlib.Omega.{arith}
-use lib.ListN.{length, length-set}
+use lib.ListN.{length}
 use borrow.Author.Needs.{needs}
 use Rattle.apportion.specs.Places.{at}
-use Rattle.apportion.proofs.Lists.{filled, filled-whole, filled-at, filled-next}
+use Rattle.book_shares.proofs.Filling.{Filling, filling-start, filling-length, filling-here, filling-next, filling-done}
 use Rattle.book_shares.proofs.sharing.add_parts.Statement.{statement}
 use Rattle.book_shares.proofs.sharing.add_parts.Tie as tie
 
 abbrev Inv-loop : tie.InvT-loop
-Inv-loop parts shares₀ place₀ shares place = (place ≤ length shares₀) × (length shares ≡ length shares₀) × (shares ≡ filled place (λ k. at shares₀ k + at parts k) shares₀)
+Inv-loop parts shares₀ place₀ shares place = Filling (λ k. at shares₀ k + at parts k) shares₀ place shares
 
 abbrev μ-loop : tie.MeasureT-loop
 μ-loop parts shares₀ place₀ shares place = length shares₀ - place
 
+-- the place is within the slice as it was
+here : (c : tie.In-loop Inv-loop μ-loop) → c .before .loop .place < length (c .before .before .args .shares .now)
+here c = omega (arith, filling-length (c .before .loop .inv))
+
 loop-holds : tie.Need-loop-holds Inv-loop μ-loop
-loop-holds c = (omega arith, refl, refl)
+loop-holds c = filling-start _ _
 
 mul-shares : tie.Need-mul-shares Inv-loop μ-loop
 mul-shares c = search needs
 
 shared-slice-read-shares : tie.Need-shared-slice-read-shares Inv-loop μ-loop
-shared-slice-read-shares c = omega (arith, c .before .before .loop .inv .1, c .before .loop-test .taken, c .before .before .before .pre .0)
+shared-slice-read-shares c = omega (arith, filling-length (c .before .before .loop .inv))
 
 mul-shares-2 : tie.Need-mul-shares-2 Inv-loop μ-loop
 mul-shares-2 c = search needs
 
 slice-read-shares : tie.Need-slice-read-shares Inv-loop μ-loop
-slice-read-shares c = omega (arith, c .before .before .before .loop .inv .1, c .before .before .loop-test .taken, c .before .before .before .before .pre .0)
+slice-read-shares c = search needs
 
 add-shares : tie.Need-add-shares Inv-loop μ-loop
 add-shares c =
-    let s = c .before .before .before .before in
-    let here : c .before .before .before .loop .place < length (s .args .shares .now) = omega (arith, c .before .before .before .loop .inv .1, c .before .before .loop-test .taken) in
-    let old = filled-at (c .before .before .before .loop .place) (λ k. at (s .args .shares .now) k + at (s .args .parts .now) k) (s .args .shares .now) here in
-    let same = ap (λ (l : List ℕ). at l (c .before .before .before .loop .place)) (c .before .before .before .loop .inv .2) in
-    omega (arith, old, same, s .pre .1 .0 (c .before .before .before .loop .place), s .pre .1 .1 (c .before .before .before .loop .place))
+    let turn = c .before .before in
+    let s = turn .before .before in
+    let place = turn .before .loop .place in
+    omega (arith, filling-here (turn .before .loop .inv) (here turn), s .pre .1 .0 place, s .pre .1 .1 place)
 
 slice-write-shares : tie.Need-slice-write-shares Inv-loop μ-loop
 slice-write-shares c = search needs
@@ -46,23 +48,19 @@ add-place : tie.Need-add-place Inv-loop μ-loop
 add-place c = search needs
 
 loop-less : tie.Need-loop-less Inv-loop μ-loop
-loop-less c = omega arith
+loop-less c = omega (arith, filling-length (c .before .before .before .loop .inv))
 
 loop-again : tie.Need-loop-again Inv-loop μ-loop
 loop-again c =
-    let s = c .before .before .before .before in
-    let f : ℕ → ℕ = λ k. at (s .args .shares .now) k + at (s .args .parts .now) k in
-    let here : c .before .before .before .loop .place < length (s .args .shares .now) = omega (arith, c .before .before .before .loop .inv .1, c .before .before .loop-test .taken) in (
-      omega arith,
-      simp length-set (c .before .before .before .loop .inv .1),
-      rw (c .before .before .before .loop .inv .2, filled-at (c .before .before .before .loop .place) f (s .args .shares .now) here) (filled-next (c .before .before .before .loop .place) f (s .args .shares .now) here),
-    )
+    let turn = c .before .before in
+    let part = at (turn .before .before .args .parts .now) (turn .before .loop .place) in
+    filling-next (turn .before .loop .inv) _ (here turn) (ap (λ (n : ℕ). n + part) (filling-here (turn .before .loop .inv) (here turn)))
 
 same-length : tie.Need-same-length Inv-loop μ-loop
-same-length c = c .before .loop .inv .1
+same-length c = filling-length (c .before .loop .inv)
 
 returns : tie.Need-returns Inv-loop μ-loop
-returns c = c .before .loop .inv .2 ∙ filled-whole (c .before .loop .place) (length (c .before .before .args .shares .now)) (λ k. at (c .before .before .args .shares .now) k + at (c .before .before .args .parts .now) k) (c .before .before .args .shares .now) (omega (arith, c .before .loop .inv .0, c .before .loop .inv .1, c .loop-test .left)) refl
+returns c = filling-done (c .before .loop .inv) refl (omega (arith, filling-length (c .before .loop .inv), c .loop-test .left))
 
 pub add-parts-spec : {M : Type 1} → statement M
 add-parts-spec =

@@ -5,7 +5,6 @@ use Prim.Native.Nat.{_≤_}
 use lib.ListN.{length}
 use lib.Seq.{length-take-le}
 use borrow.Author.Needs.{needs}
-use Rattle.book_shares.specs.Listing.{weightsAt}
 use Rattle.book_shares.proofs.Dealt.{nothing-dealt}
 use Rattle.book_shares.proofs.Listed.{listed-few}
 use Rattle.book_shares.proofs.sharing.deal.Statement.{statement}
@@ -18,7 +17,8 @@ few s = listed-few (s .args .book .now) (s .args .members .now) (s .pre .0) (s .
 returns : tie.Need-returns
 returns c =
     let s = c .before .before .before .before in
-    nothing-dealt (s .args .amount) (length (s .args .members .now)) (weightsAt (s .args .book .now) (s .args .members .now) (s .args .takers)) (s .args .shares .now) (c .if1 .taken) (s .pre .1 .1 .1 .0)
+    nothing-dealt (s .args .book .now) (s .args .members .now) (s .args .takers) (s .args .amount) (s .args .shares .now) (c .if1 .taken)
+    (s .pre .1 .1 .1 .0)
 
 array-borrow-prefix-space : tie.Need-array-borrow-prefix-space
 array-borrow-prefix-space c = few (c .before .before .before .before)

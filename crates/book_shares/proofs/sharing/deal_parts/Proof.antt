@@ -14,29 +14,38 @@ use Rattle.book_shares.proofs.Listed.{weights-at-length}
 use Rattle.book_shares.proofs.sharing.deal_parts.Statement.{statement}
 use Rattle.book_shares.proofs.sharing.deal_parts.Tie as tie
 
+-- the first call, and the start
+abbrev weighed : tie.After-divide → tie.After-set-weights
+weighed c = c .before .before .before .before .before
+
+abbrev start : tie.After-divide → tie.Start
+start c = weighed c .before .before .before .before .before .before .before
+
+-- the weights at the places
+abbrev weightsOf : tie.Start → List ℕ
+weightsOf s = weightsAt (s .args .book .now) (s .args .members .now) (s .args .takers)
+
 -- the parts are those of the definition
-parts-are : (c : tie.After-divide) → c .divide .last .1 .1 .0 ≡ divided (c .before .before .before .before .before .before .before .before .before .before .before .before .args .amount) (weightsAt (c .before .before .before .before .before .before .before .before .before .before .before .before .args .book .now) (c .before .before .before .before .before .before .before .before .before .before .before .before .args .members .now) (c .before .before .before .before .before .before .before .before .before .before .before .before .args .takers))
+parts-are : (c : tie.After-divide) → c .divide .last .1 .1 .0 ≡ divided (start c .args .amount) (weightsOf (start c))
 parts-are c =
-    let s = c .before .before .before .before .before .before .before .before .before .before .before .before in
+    let s = start c in
     amount-divided (s .args .book .now) (s .args .members .now) (s .args .takers) (s .args .amount) (s .pre .1 .1 .0) (s .pre .0) (s .pre .1 .0)
-    _ (s .args .parts .now) _ (c .before .before .before .before .before .set-weights .ensures) (s .pre .1 .1 .1 .0 .1) (c .divide .ensures .1)
+    _ (s .args .parts .now) _ (weighed c .set-weights .ensures) (s .pre .1 .1 .1 .0 .1) (c .divide .ensures .1)
 
 set-weights-requires : tie.Need-set-weights-requires
-set-weights-requires c κs =
-    let s = c .before .before .before .before .before .before in
-    (s .pre .0, (s .pre .1 .0, s .pre .1 .1 .1 .0 .0))
+set-weights-requires c κs = search needs
 
 divide-requires : tie.Need-divide-requires
 divide-requires c κs = search needs
 
 add-parts-requires : tie.Need-add-parts-requires
 add-parts-requires c κs =
-    let s = c .before .before .before .before .before .before .before .before .before .before .before .before .before .before .before .before in
-    let parts = parts-are (c .before .before .before .before) in
-    let long = shares-length (s .args .amount) (weightsAt (s .args .book .now) (s .args .members .now) (s .args .takers)) ∙ weights-at-length (s .args .book .now) (s .args .members .now) (s .args .takers) in (
-      ap length parts ∙ long ∙ sym (s .pre .1 .1 .1 .0 .2),
-      (λ k. rw parts (dealt-within (s .args .book .now) (s .args .members .now) (s .args .takers) (s .args .amount) (s .pre .1 .1 .0) k), s .pre .1 .1 .1 .1),
-    )
+    let done = c .before .before .before .before in
+    let s = start done in
+    let ws = s .args .book .now in
+    let long = shares-length (s .args .amount) (weightsOf s) ∙ weights-at-length ws (s .args .members .now) (s .args .takers) in
+    let small = dealt-within ws (s .args .members .now) (s .args .takers) (s .args .amount) (s .pre .1 .1 .0) in
+    (ap length (parts-are done) ∙ long ∙ sym (s .pre .1 .1 .1 .0 .2), (λ k. rw (parts-are done) (small k), s .pre .1 .1 .1 .1))
 
 same-length : tie.Need-same-length
 same-length c = search needs
@@ -49,16 +58,11 @@ same-length-3 c = search needs
 
 returns : tie.Need-returns
 returns c =
-    let s = c .before .before .before .before .before .before .before .before .before .before .before .before .before .before .before .before .before .before .before in
-    let parts = parts-are (c .before .before .before .before .before .before .before) in (
-      c .before .before .before .before .before .before .before .before .before .before .before .before .set-weights .ensures,
-      (
-        parts,
-        c .before .before .add-parts .ensures
-            ∙ ap (λ (n : ℕ). listBelow n (λ k. at (s .args .shares .now) k + at (c .before .before .before .before .before .before .before .divide .last .1 .1 .0) k)) (s .pre .1 .1 .1 .0 .2)
-            ∙ ap (λ (l : List ℕ). listBelow (length (s .args .members .now)) (λ k. at (s .args .shares .now) k + at l k)) parts,
-      ),
-    )
+    let done = c .before .before .before .before .before .before .before in
+    let shares = start done .args .shares .now in
+    let added = ap (λ (l : List ℕ). listBelow (length shares) (λ k. at shares k + at l k)) (parts-are done) in
+    let wide = ap (λ (n : ℕ). listBelow n (λ k. at shares k + at (divided (start done .args .amount) (weightsOf (start done))) k)) in
+    (weighed done .set-weights .ensures, (parts-are done, c .before .before .add-parts .ensures ∙ added ∙ wide (start done .pre .1 .1 .1 .0 .2)))
 
 pub deal-parts-spec : {M : Type 1} → statement M
 deal-parts-spec =

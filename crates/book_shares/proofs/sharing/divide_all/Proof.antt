@@ -1,23 +1,35 @@
 -- `book_shares::sharing::divide_all` meets its contract: the division of A is accepted, and its shares are the two parts.
 -- Assumes nothing.
 use mathlib.Core.List.{List}
-use mathlib.Core.Path.{ap, refl}
+use mathlib.Core.Path.{ap, refl, sym, _∙_}
 use Prim.Native.Nat.{ℕ}
+use native.Mathlib.Omega.{arith}
 use borrow.Author.Needs.{needs}
 use Rattle.apportion.specs.Places.{at}
 use Rattle.book_shares.proofs.Dealt.{all-divided, all-freight, all-passengers}
+use Rattle.book_shares.proofs.Listed.{listed-served}
 use Rattle.book_shares.proofs.sharing.divide_all.Statement.{statement}
 use Rattle.book_shares.proofs.sharing.divide_all.Tie as tie
 
+abbrev start : tie.After-passengers-by-mass → tie.Start
+start c = c .before .before .before .before
+
+activity-among-requires : tie.Need-activity-among-requires
+activity-among-requires c κs = search needs
+
+passengers-by-mass-requires : tie.Need-passengers-by-mass-requires
+passengers-by-mass-requires c κs = search needs
+
 returns : tie.Need-returns
 returns c =
-    let s = c .before in
-    all-freight (s .args .all) (s .args .activity) (s .args .mass) (s .pre .1) (c .if1 .taken)
+    let s = start (c .before) in
+    all-freight (s .args .all) _ _ (s .pre .1 .1 .1) (sym (c .before .passengers-by-mass .ensures) ∙ c .if1 .taken)
 
 returns-2 : tie.Need-returns-2
 returns-2 c =
-    let s = c .before .before in
-    all-passengers (s .args .all) (s .args .activity) (s .args .mass) (s .pre .1) (c .if2 .taken)
+    let summed = c .before .before in
+    let s = start summed in
+    all-passengers (s .args .all) _ _ (s .pre .1 .1 .1) (sym (summed .before .activity-among .ensures) ∙ c .if2 .taken)
 
 slice-aggregate-divide : tie.Need-slice-aggregate-divide
 slice-aggregate-divide c = search needs
@@ -28,27 +40,32 @@ slice-aggregate-divide-2 c = search needs
 divide-requires : tie.Need-divide-requires
 divide-requires c κs = search needs
 
-array-read-t6 : tie.Need-array-read-t6
-array-read-t6 c = search needs
+array-read-t9 : tie.Need-array-read-t9
+array-read-t9 c = search needs
 
-array-read-t16 : tie.Need-array-read-t16
-array-read-t16 c = search needs
+array-read-t19 : tie.Need-array-read-t19
+array-read-t19 c = search needs
 
 returns-3 : tie.Need-returns-3
 returns-3 c =
-    let s = c .before .before .before .before .before .before in
+    let summed = c .before .before .before .before .before .before in
+    let s = start summed in
+    let most = listed-served (s .args .book .now) (s .args .members .now) (s .pre .0) (s .pre .1 .0) in
     ap (λ (l : List ℕ). record { freight = at l 0; passengers = at l 1 })
-    (all-divided (s .args .all) (s .args .activity) (s .args .mass) _ _ refl (s .pre .0) (s .pre .1) (s .pre .2) (c .before .divide .ensures .1))
+    (all-divided (s .args .all) _ _ _ _ (summed .before .activity-among .ensures) (summed .passengers-by-mass .ensures) refl (s .pre .1 .1 .0)
+    (s .pre .1 .1 .1) (omega (arith, most)) (c .before .divide .ensures .1))
 
 pub divide-all-spec : {M : Type 1} → statement M
 divide-all-spec =
     tie.close
     (tie.spec
+    activity-among-requires
+    passengers-by-mass-requires
     returns
     returns-2
     slice-aggregate-divide
     slice-aggregate-divide-2
     divide-requires
-    array-read-t6
-    array-read-t16
+    array-read-t9
+    array-read-t19
     returns-3)

@@ -1,13 +1,13 @@
 -- `book_words::measures::is_amount` meets its contract: a mass or a head count, by the code. Assumes nothing.
-use borrow.Author.Tests.{le-leb, lt-leb}
+use Rattle.apportion.proofs.Tests.{tests}
 use Rattle.book_words.proofs.measures.is_amount.Statement.{statement}
 use Rattle.book_words.proofs.measures.is_amount.Tie as tie
 
 returns : tie.Need-returns
-returns c = rw (le-leb _ _ (c .if1 .taken))
+returns c = search tests
 
 returns-2 : tie.Need-returns-2
-returns-2 c = rw (lt-leb _ _ (c .if1 .left))
+returns-2 c = search tests
 
 pub is-amount-spec : {M : Type 1} → statement M
 is-amount-spec = tie.close (tie.spec returns returns-2)

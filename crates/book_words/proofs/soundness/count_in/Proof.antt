@@ -1,44 +1,50 @@
 -- `book_words::soundness::count_in` meets its contract: a list by its number. Assumes nothing.
-use mathlib.Core.List.{List}
-use mathlib.Core.Path.{_≡_, refl}
-use Prim.Native.Nat.{ℕ, zero, suc}
-use borrow.Author.Needs.{needs}
-use Rattle.book_words.specs.Book.{categories}
-use Rattle.book_words.specs.Parts.{countIn}
+use mathlib.Core.Logic.{⊎-elim, inl, inr}
+use Prim.Native.Nat.{_<_, _≤_}
+use native.Mathlib.Omega.{arith}
+use lib.ListN.{length}
+use borrow.Author.Tests.{ne-eqb}
+use Rattle.book_words.specs.Book.{bookLength}
+use Rattle.book_words.proofs.Facts.{past-header}
 use Rattle.book_words.proofs.soundness.count_in.Statement.{statement}
 use Rattle.book_words.proofs.soundness.count_in.Tie as tie
 
-other : (ws : List ℕ) (list : ℕ) → (list ≡ 1 → ⊥) → (list ≡ 2 → ⊥) → categories ws ≡ countIn ws list
-other ws zero one two = refl
-other ws (suc zero) one two = absurd (one refl)
-other ws (suc (suc zero)) one two = absurd (two refl)
-other ws (suc (suc (suc n))) one two = refl
+long : (s : tie.Start) → 0 < s .args .list → bookLength ≤ length (s .args .book .now)
+long s h = past-header (s .args .book .now) (s .args .list) (s .pre) h .long
 
 shared-slice-read-result : tie.Need-shared-slice-read-result
-shared-slice-read-result c = search needs
-
-returns : tie.Need-returns
-returns c = rw (c .before .if1 .taken)
+shared-slice-read-result c =
+    let some : 0 < c .before .before .args .list = ⊎-elim (λ e. omega arith) (λ e. omega arith) (c .before .match .keys1) in
+    omega (arith, long (c .before .before) some)
 
 shared-slice-read-result-2 : tie.Need-shared-slice-read-result-2
-shared-slice-read-result-2 c = search needs
-
-returns-2 : tie.Need-returns-2
-returns-2 c = rw (c .before .if2 .taken)
+shared-slice-read-result-2 c = omega (arith, long (c .before .before) (omega arith))
 
 shared-slice-read-result-3 : tie.Need-shared-slice-read-result-3
-shared-slice-read-result-3 c = search needs
+shared-slice-read-result-3 c = omega (arith, long (c .before .before) (omega arith))
+
+returns : tie.Need-returns
+returns c = ⊎-elim (λ e. rw e) (λ e. rw e) (c .before .match .keys1)
+
+returns-2 : tie.Need-returns-2
+returns-2 c = rw (c .before .match .keys2)
 
 returns-3 : tie.Need-returns-3
-returns-3 c = other _ (c .before .before .before .args .list) (c .before .before .if1 .left) (c .before .if2 .left)
+returns-3 c = rw (c .before .match .keys3)
+
+returns-4 : tie.Need-returns-4
+returns-4 c =
+    let other = c .match .rest in
+    rw (ne-eqb _ 1 (λ e. other .0 .0 .1 (inl e)), ne-eqb _ 5 (λ e. other .0 .0 .1 (inr e)), ne-eqb _ 2 (other .0 .1), ne-eqb _ 3 (other .1))
 
 pub count-in-spec : {M : Type 1} → statement M
 count-in-spec =
     tie.close
     (tie.spec
     shared-slice-read-result
-    returns
     shared-slice-read-result-2
-    returns-2
     shared-slice-read-result-3
-    returns-3)
+    returns
+    returns-2
+    returns-3
+    returns-4)

@@ -1,10 +1,8 @@
 -- `book_words::soundness::element_fine` meets its contract: quoted, of a category that is not there, or of one that is.
 -- Assumes nothing.
-use mathlib.Core.Path.{_∙_, ap}
+use mathlib.Core.Path.{_∙_}
 use native.Mathlib.Omega.{arith}
 use borrow.Author.Needs.{needs}
-use Rattle.book_words.specs.declared.records.Category.{Category}
-use Rattle.book_words.specs.Soundness.{elementFine, elementSuits}
 use Rattle.book_words.proofs.Rules.{element-quoted, element-unnumbered, element-numbered}
 use Rattle.book_words.proofs.soundness.element_fine.Statement.{statement}
 use Rattle.book_words.proofs.soundness.element_fine.Tie as tie
@@ -17,16 +15,14 @@ quoted-suits-requires c κs = search needs
 
 returns : tie.Need-returns
 returns c =
-    let ws = c .before .before .before .before .args .book .now in
-    c .quoted-suits .ensures ∙ element-quoted ws (c .before .before .read-element .result) (c .before .if1 .taken) ∙ ap (elementFine ws) (c .before .before .read-element .ensures)
+    rw (← c .before .before .read-element .ensures) (c .quoted-suits .ensures ∙ element-quoted _ _ (c .before .if1 .taken))
 
 shared-slice-read-if2 : tie.Need-shared-slice-read-if2
 shared-slice-read-if2 c = search needs
 
 returns-2 : tie.Need-returns-2
 returns-2 c =
-    let ws = c .before .before .before .before .before .args .book .now in
-    element-unnumbered ws (c .before .before .before .read-element .result) (c .before .before .if1 .left) (c .if2 .taken) ∙ ap (elementFine ws) (c .before .before .before .read-element .ensures)
+    rw (← c .before .before .before .read-element .ensures) (element-unnumbered _ _ (c .before .before .if1 .left) (c .if2 .taken))
 
 sub-read-category : tie.Need-sub-read-category
 sub-read-category c = omega (arith, c .before .before .if1 .left)
@@ -39,9 +35,10 @@ element-suits-requires c κs = search needs
 
 returns-3 : tie.Need-returns-3
 returns-3 c =
-    let ws = c .before .before .before .before .before .before .before .args .book .now in
-    let r = c .before .before .before .before .before .read-element .result in
-    c .element-suits .ensures ∙ ap (λ (x : Category). elementSuits x r) (c .before .read-category .ensures) ∙ element-numbered ws r (c .before .before .before .before .if1 .left) (c .before .before .if2 .left) ∙ ap (elementFine ws) (c .before .before .before .before .before .read-element .ensures)
+    let tested = c .before .before in
+    rw (← tested .before .before .before .read-element .ensures)
+    (c .element-suits .ensures
+    ∙ rw (c .before .read-category .ensures) (element-numbered _ _ (tested .before .before .if1 .left) (tested .if2 .left)))
 
 pub element-fine-spec : {M : Type 1} → statement M
 element-fine-spec =

@@ -1,11 +1,8 @@
 -- `book_words::soundness::measured` meets its contract: amount and distance in range, then the activity. Assumes nothing.
-use mathlib.Core.Bool.{_&&_}
-use mathlib.Core.Path.{sym, _∙_}
+use mathlib.Core.Path.{_∙_}
 use borrow.Author.Needs.{needs}
-use borrow.Author.Tests.{not-true, not-false}
-use Rattle.book_words.specs.Measures.{activityOf}
 use Rattle.book_words.specs.Soundness.{measured}
-use Rattle.book_words.proofs.Booleans.{both}
+use Rattle.book_words.proofs.Booleans.{one-fails, both-hold}
 use Rattle.book_words.proofs.Capping.{capped-small}
 use Rattle.book_words.proofs.Ranges.{activity-small}
 use Rattle.book_words.proofs.soundness.measured.Statement.{statement}
@@ -19,9 +16,7 @@ is-distance-requires c κs = search needs
 
 returns : tie.Need-returns
 unfolding measured
-returns c =
-    let bad = not-true (c .before .before .is-amount .result && c .before .is-distance .result) (c .if1 .taken) in
-    rw (← c .before .before .is-amount .ensures, ← c .before .is-distance .ensures, bad)
+returns c = rw (one-fails _ _ (c .before .before .is-amount .ensures) (c .before .is-distance .ensures) (c .if1 .taken))
 
 activity-requires : tie.Need-activity-requires
 activity-requires c κs = search needs
@@ -29,11 +24,10 @@ activity-requires c κs = search needs
 returns-2 : tie.Need-returns-2
 unfolding measured
 returns-2 c =
-    let fine = not-false (c .before .before .before .before .is-amount .result && c .before .before .before .is-distance .result) (c .before .before .if1 .left) in
-    let parts = both (c .before .before .before .before .is-amount .result) (c .before .before .before .is-distance .result) fine in
-    let r = c .before .before .before .before .before .args .r in
-    let small = activity-small (c .before .before .before .before .before .args .kind) (r .code) (r .amount) (r .distance) (c .before .before .before .before .before .pre) (sym (c .before .before .before .before .is-amount .ensures) ∙ parts .0) (sym (c .before .before .before .is-distance .ensures) ∙ parts .1) in
-    rw (← c .before .before .before .before .is-amount .ensures, ← c .before .before .before .is-distance .ensures, fine, c .before .activity .ensures ∙ capped-small (activityOf (c .before .before .before .before .before .args .kind) (r .code) (r .amount) (r .distance)) small)
+    let tested = c .before .before in
+    let fine = both-hold _ _ (tested .before .before .is-amount .ensures) (tested .before .is-distance .ensures) (tested .if1 .left) in
+    let small = activity-small _ _ _ _ (tested .before .before .before .pre) (fine .0) (fine .1) in
+    rw (fine .0, fine .1, c .before .activity .ensures ∙ capped-small _ small)
 
 pub measured-spec : {M : Type 1} → statement M
 measured-spec =

@@ -1,73 +1,82 @@
 -- `book_words::soundness::record_fine` meets its contract: the record by its list. Assumes nothing.
-use mathlib.Core.List.{List}
-use mathlib.Core.Path.{_≡_, refl, _∙_}
-use Prim.Native.Nat.{ℕ, zero, suc}
+use mathlib.Core.Path.{_≡_}
+use Prim.Native.Nat.{_<_}
 use native.Mathlib.Omega.{arith}
 use borrow.Author.Needs.{needs}
-use Rattle.book_words.specs.Book.{categories}
-use Rattle.book_words.specs.Parts.{countIn, recordFine}
-use Rattle.book_words.specs.Soundness.{sharesFine}
+use Rattle.book_words.specs.Parts.{CountsWithin}
+use Rattle.book_words.proofs.Facts.{past-header, past-sums}
 use Rattle.book_words.proofs.soundness.record_fine.Statement.{statement}
 use Rattle.book_words.proofs.soundness.record_fine.Tie as tie
 
--- past the first three lists
-last-count : (ws : List ℕ) (list : ℕ) → (list ≡ 0 → ⊥) → (list ≡ 1 → ⊥) → (list ≡ 2 → ⊥) → countIn ws list ≡ categories ws
-last-count ws zero a b d = refl
-last-count ws (suc zero) a b d = absurd (b refl)
-last-count ws (suc (suc zero)) a b d = absurd (d refl)
-last-count ws (suc (suc (suc n))) a b d = refl
+-- the counts are within their limits, as the header is before this list
+counts : (s : tie.Start) → 0 < s .args .list → CountsWithin (s .args .book .now)
+counts s = past-header (s .args .book .now) (s .args .list) (s .pre .0)
 
-last-fine : (ws : List ℕ) (list place : ℕ) → (list ≡ 0 → ⊥) → (list ≡ 1 → ⊥) → (list ≡ 2 → ⊥) → sharesFine ws place ≡ recordFine ws list place
-last-fine ws zero place a b d = absurd (a refl)
-last-fine ws (suc zero) place a b d = absurd (b refl)
-last-fine ws (suc (suc zero)) place a b d = absurd (d refl)
-last-fine ws (suc (suc (suc n))) place a b d = refl
+header-fine-requires : tie.Need-header-fine-requires
+header-fine-requires c κs = search needs
 
 read-category-requires : tie.Need-read-category-requires
 read-category-requires c κs =
-    let inside = rw (c .if1 .taken) at (c .before .before .pre .1 .1) in
-    (c .before .before .pre .0 .long, omega (arith, inside, c .before .before .pre .0))
+    let within = counts (c .before .before) (omega arith) in
+    (within .long, omega (arith, rw (c .match .keys2) at (c .before .before .pre .1 .1), within))
 
 category-fine-requires : tie.Need-category-fine-requires
 category-fine-requires c κs = search needs
 
-returns : tie.Need-returns
-returns c = rw (c .before .before .if1 .taken, c .category-fine .ensures, c .before .read-category .ensures)
-
 entry-fine-requires : tie.Need-entry-fine-requires
 entry-fine-requires c κs =
-    let inside = rw (c .if2 .taken) at (c .before .before .before .pre .1 .1) in
-    (c .before .before .before .pre .0, omega (arith, inside, c .before .before .before .pre .0))
-
-returns-2 : tie.Need-returns-2
-returns-2 c = rw (c .before .if2 .taken) (c .entry-fine .ensures)
+    let within = counts (c .before .before) (omega arith) in
+    (within, omega (arith, rw (c .match .keys3) at (c .before .before .pre .1 .1), within))
 
 element-fine-requires : tie.Need-element-fine-requires
 element-fine-requires c κs =
-    let inside = rw (c .if3 .taken) at (c .before .before .before .before .pre .1 .1) in
-    (c .before .before .before .before .pre .0, omega (arith, inside, c .before .before .before .before .pre .0))
+    let within = counts (c .before .before) (omega arith) in
+    (within, omega (arith, rw (c .match .keys4) at (c .before .before .pre .1 .1), within))
 
-returns-3 : tie.Need-returns-3
-returns-3 c = rw (c .before .if3 .taken) (c .element-fine .ensures)
+sums-fine-requires : tie.Need-sums-fine-requires
+sums-fine-requires c κs = counts (c .before .before) (omega arith)
 
 shares-fine-requires : tie.Need-shares-fine-requires
 shares-fine-requires c κs =
-    let last = last-count (c .before .before .before .before .args .book .now) (c .before .before .before .before .args .list) (c .before .before .if1 .left) (c .before .if2 .left) (c .if3 .left) in
-    (c .before .before .before .before .pre .0, (c .before .before .before .before .pre .1 .0, omega (arith, c .before .before .before .before .pre .1 .1, last, c .before .before .before .before .pre .0)))
+    let s = c .before .before in
+    let last : s .args .list ≡ 5 = omega arith in
+    let within = counts s (omega arith) in
+    (within, (past-sums (s .args .book .now) (s .args .list) (s .pre .0) (omega arith), omega (arith, rw last at (s .pre .1 .1), within)))
+
+returns : tie.Need-returns
+returns c = rw (c .before .match .keys1) (c .header-fine .ensures)
+
+returns-2 : tie.Need-returns-2
+returns-2 c = rw (c .before .before .match .keys2, c .category-fine .ensures, c .before .read-category .ensures)
+
+returns-3 : tie.Need-returns-3
+returns-3 c = rw (c .before .match .keys3) (c .entry-fine .ensures)
 
 returns-4 : tie.Need-returns-4
-returns-4 c = c .shares-fine .ensures ∙ last-fine (c .before .before .before .before .before .args .book .now) (c .before .before .before .before .before .args .list) (c .before .before .before .before .before .args .place) (c .before .before .before .if1 .left) (c .before .before .if2 .left) (c .before .if3 .left)
+returns-4 c = rw (c .before .match .keys4) (c .element-fine .ensures)
+
+returns-5 : tie.Need-returns-5
+returns-5 c = rw (c .before .match .keys5) (c .sums-fine .ensures)
+
+returns-6 : tie.Need-returns-6
+returns-6 c =
+    let last : c .before .before .before .args .list ≡ 5 = omega arith in
+    rw last (c .shares-fine .ensures)
 
 pub record-fine-spec : {M : Type 1} → statement M
 record-fine-spec =
     tie.close
     (tie.spec
+    header-fine-requires
     read-category-requires
     category-fine-requires
-    returns
     entry-fine-requires
-    returns-2
     element-fine-requires
-    returns-3
+    sums-fine-requires
     shares-fine-requires
-    returns-4)
+    returns
+    returns-2
+    returns-3
+    returns-4
+    returns-5
+    returns-6)

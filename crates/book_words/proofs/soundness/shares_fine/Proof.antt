@@ -9,7 +9,7 @@ read-category-requires : tie.Need-read-category-requires
 read-category-requires c κs = search needs
 
 returns : tie.Need-returns
-returns c = shares-open (c .before .before .before .before .args .book .now) (c .before .before .before .before .args .place) (c .before .before .read-category .result) (c .before .before .read-category .ensures) (c .if1 .taken)
+returns c = shares-open _ _ _ (c .before .before .read-category .ensures) (c .if1 .taken)
 
 add-number : tie.Need-add-number
 add-number c = search needs
@@ -22,8 +22,10 @@ unstruck-of-requires c κs = search needs
 
 returns-2 : tie.Need-returns-2
 returns-2 c =
-    rw (c .before .before .before .before .before .shares-of .ensures, c .before .before .before .before .unstruck-of .ensures)
-    (shares-closed (c .before .before .before .before .before .before .before .before .before .before .args .book .now) (c .before .before .before .before .before .before .before .before .before .before .args .place) (c .before .before .before .before .before .before .before .before .read-category .result) (c .before .before .before .before .before .before .before .before .read-category .ensures) (c .before .before .before .before .before .before .if1 .left) (c .before .before .before .before .before .before .before .before .before .before .pre .1 .0))
+    let added = c .before .before .before .before in
+    let tested = added .before .before in
+    rw (added .before .shares-of .ensures, added .unstruck-of .ensures)
+    (shares-closed _ _ _ (tested .before .before .read-category .ensures) (tested .if1 .left) (tested .before .before .before .before .pre .1 .0))
 
 pub shares-fine-spec : {M : Type 1} → statement M
 shares-fine-spec =

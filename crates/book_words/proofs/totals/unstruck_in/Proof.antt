@@ -1,17 +1,16 @@
--- `book_words::totals::unstruck_in` meets its contract: the amounts by the category. Assumes nothing.
+-- `book_words::totals::unstruck_in` meets its contract: what an entry adds, by its category. Assumes nothing.
 use borrow.Author.Needs.{needs}
-use borrow.Author.Tests.{eq-eqb, ne-eqb}
 use Rattle.book_words.proofs.totals.unstruck_in.Statement.{statement}
 use Rattle.book_words.proofs.totals.unstruck_in.Tie as tie
 
 unstruck-requires : tie.Need-unstruck-requires
 unstruck-requires c κs = search needs
 
-returns : tie.Need-returns
-returns c = rw (eq-eqb _ _ (c .before .if1 .taken)) (c .unstruck .ensures)
+amounts-where-requires : tie.Need-amounts-where-requires
+amounts-where-requires c κs = search needs
 
-returns-2 : tie.Need-returns-2
-returns-2 c = rw (ne-eqb _ _ (c .if1 .left))
+returns : tie.Need-returns
+returns c = rw (c .amounts-where .ensures, c .before .unstruck .ensures)
 
 pub unstruck-in-spec : {M : Type 1} → statement M
-unstruck-in-spec = tie.close (tie.spec unstruck-requires returns returns-2)
+unstruck-in-spec = tie.close (tie.spec unstruck-requires amounts-where-requires returns)

@@ -1,22 +1,24 @@
 -- `book_words::totals::unstruck_of` meets its contract: up to a place both sums are those of the definition, capped.
 -- Assumes nothing.
 use mathlib.Core.Bool.{cond}
-use mathlib.Core.Path.{_≡_, refl, _∙_, ap}
-use Prim.Native.Nat.{_-_, _+_}
+use mathlib.Core.Path.{_≡_, refl}
+use Prim.Native.Nat.{_-_, _≤_}
 use native.Mathlib.Omega.{arith}
 use lib.Dec.{eqb}
 use borrow.Author.Needs.{needs}
-use Rattle.book_words.specs.declared.records.Entry.{Entry}
-use Rattle.book_words.specs.declared.totals.Amounts.{Amounts}
+use Rattle.apportion.specs.Places.{sumBelow}
 use Rattle.book_words.specs.Book.{entryAt, entries}
-use Rattle.book_words.specs.Parts.{bySides, sideOf}
+use Rattle.book_words.specs.Parts.{bySides}
 use Rattle.book_words.specs.Totals.{unstruck, capped, unstruckOf}
-use Rattle.book_words.proofs.Adding.{AddingSides, sides-start, sides-next, sides-done}
+use Rattle.apportion.proofs.Sums.{sum-next}
+use Rattle.book_words.proofs.Capping.{capped-add}
 use Rattle.book_words.proofs.totals.unstruck_of.Statement.{statement}
 use Rattle.book_words.proofs.totals.unstruck_of.Tie as tie
 
 abbrev Inv-loop : tie.InvT-loop
-Inv-loop book category count sum₀ place₀ sum place = AddingSides count place sum (λ s p. cond (eqb (entryAt book p .category) category) (unstruck s (entryAt book p)) 0) × (count ≡ entries book)
+Inv-loop book category count sum₀ place₀ sum place =
+    (place ≤ count)
+    × (sum ≡ bySides (λ s. capped (sumBelow place (λ p. cond (eqb (entryAt book p .category) category) (unstruck s (entryAt book p)) 0))))
 
 abbrev μ-loop : tie.MeasureT-loop
 μ-loop book category count sum₀ place₀ sum place = count - place
@@ -25,7 +27,7 @@ shared-slice-read-count : tie.Need-shared-slice-read-count Inv-loop μ-loop
 shared-slice-read-count c = search needs
 
 loop-holds : tie.Need-loop-holds Inv-loop μ-loop
-loop-holds c = (sides-start _ _, refl)
+loop-holds c = (omega arith, refl)
 
 read-entry-requires : tie.Need-read-entry-requires Inv-loop μ-loop
 read-entry-requires c κs = search needs
@@ -44,13 +46,14 @@ loop-less c = omega arith
 
 loop-again : tie.Need-loop-again Inv-loop μ-loop
 loop-again c =
-    let term = c .before .unstruck-in .ensures ∙ ap (λ (e : Entry). bySides (λ s. cond (eqb (e .category) (c .before .before .before .before .before .before .before .args .category)) (unstruck s e) 0)) (c .before .before .read-entry .ensures) in
-    let step = c .add-sides .ensures ∙ ap (λ (more : Amounts). bySides (λ s. capped (sideOf s (c .before .before .before .before .loop .sum) + sideOf s more))) term in
-    (sides-next _ (c .before .before .before .before .loop .inv .0) (c .before .before .before .loop-test .taken) step, c .before .before .before .before .loop .inv .1)
+    let so-far = c .before .before .before .before .loop .inv .1 in
+    (omega arith, rw (c .add-sides .ensures, c .before .unstruck-in .ensures, c .before .before .read-entry .ensures, so-far) (simp (capped-add, sum-next)))
 
 returns : tie.Need-returns Inv-loop μ-loop
 unfolding unstruckOf
-returns c = sides-done (rw (c .before .loop .inv .1) at (c .before .loop .inv .0)) (omega (arith, c .loop-test .left, c .before .loop .inv .1))
+returns c =
+    let end : c .before .loop .place ≡ entries (c .before .before .before .before .args .book .now) = omega arith in
+    rw end at (c .before .loop .inv .1)
 
 pub unstruck-of-spec : {M : Type 1} → statement M
 unstruck-of-spec =

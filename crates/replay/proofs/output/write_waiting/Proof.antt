@@ -15,28 +15,19 @@ unfailed c = not-false _ (c .if1 .left)
 returns : tie.Need-returns
 returns c = search needs
 
+least-requires : tie.Need-least-requires
+least-requires c κs = search needs
+
 slice-aggregate-write-all : tie.Need-slice-aggregate-write-all
 slice-aggregate-write-all c = sym (length-take-le _ _ (omega arith))
 
 write-all-requires : tie.Need-write-all-requires
 write-all-requires c κs = search needs
 
-write-all-requires-2 : tie.Need-write-all-requires-2
-write-all-requires-2 c κs = search needs
-
 returns-2 : tie.Need-returns-2
 returns-2 c = record { emptied = refl; failed = λ failed. cc (unfailed (c .before .before .before)) }
-
-returns-3 : tie.Need-returns-3
-returns-3 c = record { emptied = refl; failed = λ failed. cc (unfailed (c .before .before)) }
 
 pub write-waiting-spec : {M : Type 1} → statement M
 write-waiting-spec =
     tie.close
-    (tie.spec
-    returns
-    slice-aggregate-write-all
-    write-all-requires
-    write-all-requires-2
-    returns-2
-    returns-3)
+    (tie.spec returns least-requires slice-aggregate-write-all write-all-requires returns-2)

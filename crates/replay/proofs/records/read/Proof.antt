@@ -29,20 +29,15 @@ u64-at-requires-8 c κs = search needs
 
 returns : tie.Need-returns
 returns c =
-    let c7 = c .before in
-    let c6 = c7 .before in
-    let c5 = c6 .before in
-    let c4 = c5 .before in
-    let c3 = c4 .before in
-    let c2 = c3 .before in
+    let fourth = c .before .before .before .before in
     rw (
-      c2 .before .u64-at .ensures,
-      c2 .u64-at2 .ensures,
-      c3 .u64-at3 .ensures,
-      c4 .u64-at4 .ensures,
-      c5 .u64-at5 .ensures,
-      c6 .u64-at6 .ensures,
-      c7 .u64-at7 .ensures,
+      fourth .before .before .before .u64-at .ensures,
+      fourth .before .before .u64-at2 .ensures,
+      fourth .before .u64-at3 .ensures,
+      fourth .u64-at4 .ensures,
+      c .before .before .before .u64-at5 .ensures,
+      c .before .before .u64-at6 .ensures,
+      c .before .u64-at7 .ensures,
       c .u64-at8 .ensures,
     )
 

@@ -2,10 +2,8 @@
 use native.Mathlib.Omega.{arith}
 use borrow.Author.Needs.{needs}
 use borrow.Author.Tests.{lt-leb, le-leb}
-use Prim.Native.Nat.{ℕ}
-use mathlib.Core.List.{List, _++_}
-use mathlib.Core.Path.{_∙_, ap}
-use lib.ListN.{length, drop}
+use mathlib.Core.Path.{_∙_}
+use lib.ListN.{length}
 use lib.Seq.{take-length}
 use Rattle.report.specs.Printing.{answerFor, bufferWith}
 use Rattle.report.proofs.printing.hand_over.Statement.{statement}
@@ -29,7 +27,7 @@ unfolding answerFor bufferWith
 returns-2 c =
     let start = c .before .before .before .before .before .before .before in
     let fits = le-leb (length (start .args .text .now)) (length (start .args .out .now)) (omega arith) in
-    (rw fits, rw fits (c .before .before .copy .ensures .1 ∙ ap (λ (l : List ℕ). l ++ drop (length (start .args .text .now)) (start .args .out .now)) (take-length (start .args .text .now))))
+    (rw fits, rw fits (c .before .before .copy .ensures .1 ∙ rw (take-length (start .args .text .now))))
 
 pub hand-over-spec : {M : Type 1} → statement M
 hand-over-spec = tie.close (tie.spec returns copy-requires same-length returns-2)

@@ -1,10 +1,7 @@
 -- `report::refusals::refusal_line` meets its contract. Assumes nothing.
 use Prim.Native.Nat.{ℕ}
 use mathlib.Core.List.{List}
-use mathlib.Core.Path.{_∙_, ap}
 use borrow.Author.Needs.{needs}
-use lib.ListN.{length}
-use Rattle.report.specs.Printing.{answerFor, bufferWith}
 use Rattle.report.specs.Sheet.{refusedText, refusedRoom}
 use Rattle.report.proofs.Laws.{answer-unrefused}
 use Rattle.report.proofs.Lines.{refused-fits}
@@ -19,11 +16,13 @@ write-refused-requires : tie.Need-write-refused-requires
 write-refused-requires c κs = search needs
 
 -- the line is in the room
-written : (c : tie.After-write-refused) → Front (refusedText (c .before .before .before .args .number) (c .before .before .before .args .table) (c .before .before .before .args .«record»)) (c .write-refused .last .1 .1 .1 .0) (c .write-refused .result)
-written c =
+abbrev asked : tie.After-write-refused → List ℕ
+asked c =
     let a = c .before .before .before .args in
-    in-room refusedRoom _ _ _ (c .write-refused .ensures .1) (c .write-refused .ensures .0)
-    (refused-fits (a .number) (a .table) (a .«record»))
+    refusedText (a .number) (a .table) (a .«record»)
+
+written : (c : tie.After-write-refused) → Front (asked c) (c .write-refused .last .1 .1 .1 .0) (c .write-refused .result)
+written c = in-room refusedRoom (c .write-refused .ensures .1) (c .write-refused .ensures .0) (refused-fits _ _ _)
 
 array-share-prefix-room : tie.Need-array-share-prefix-room
 array-share-prefix-room c = written (c .before) .inside
@@ -39,11 +38,8 @@ same-length c = search needs
 
 returns : tie.Need-returns
 returns c =
-    let over = c .before .before .hand-over in
-    let out = c .before .before .before .before .before .before .before .before .before .args .out .now in
-    let text = written (c .before .before .before .before .before .before) .is-text in
-    let answered = over .ensures .0 ∙ ap (λ (t : List ℕ). answerFor t (length out)) text in
-    (answered, (answer-unrefused _ (length out) _ answered, over .ensures .1 ∙ ap (λ (t : List ℕ). bufferWith t out) text))
+    let over = c .before .before .hand-over .ensures in
+    rw (← written (c .before .before .before .before .before .before) .is-text) (over .0, (answer-unrefused _ _ _ (over .0), over .1))
 
 pub refusal-line-spec : {M : Type 1} → statement M
 refusal-line-spec =

@@ -1,14 +1,11 @@
 -- `report::refusals::write_refused` meets its contract. Assumes nothing.
 use native.Mathlib.Omega.{arith}
 use mathlib.Core.List.{[], _∷_}
-use mathlib.Core.Path.{_∙_, ap}
 use borrow.Author.Needs.{needs}
-use lib.ListN.{length, length-append}
-use lib.Seq.{length-sets}
 use Rattle.report.specs.Sheet.{refusedWord, refusedText}
 use Rattle.report.specs.Text.{line}
 use Rattle.report.proofs.Lines.{refused-fits}
-use Rattle.report.proofs.Stores.{then-stored}
+use Rattle.report.proofs.Stores.{then-room, then-kept, then-stored}
 use Rattle.report.proofs.refusals.write_refused.Statement.{statement}
 use Rattle.report.proofs.refusals.write_refused.Tie as tie
 
@@ -25,36 +22,25 @@ put-line-requires : tie.Need-put-line-requires
 unfolding refusedText refusedWord
 put-line-requires c κs =
     let start = c .before .before .before .before .before .before .before .before in
-    let put = c .before .before .before .before .put-bytes in
+    let put = c .before .before .before .before .put-bytes .ensures in
     let a = start .args in
-    omega (
-      arith,
-      start .pre,
-      put .ensures .0,
-      ap length (put .ensures .1) ∙ length-sets (a .out .now) 0 refusedWord,
-      length-append refusedWord (line (a .number) (a .table ∷ a .«record» ∷ [])),
-      refused-fits (a .number) (a .table) (a .«record»),
-    )
+    then-room refusedWord (line (a .number) (a .table ∷ a .«record» ∷ [])) (a .out .now) (put .1) (put .0)
+    (omega (arith, start .pre, refused-fits (a .number) (a .table) (a .«record»)))
 
 same-length : tie.Need-same-length
 unfolding refusedWord
 same-length c =
-    let start = c .before .before .before .before .before .before .before .before .before .before .before in
-    let put = c .before .before .before .before .before .before .before .put-bytes in
-    let a = start .args in
-    ap length (c .before .before .put-line .ensures .1)
-    ∙ length-sets (put .last .1 .0) (put .result) (line (a .number) (a .table ∷ a .«record» ∷ []))
-    ∙ ap length (put .ensures .1)
-    ∙ length-sets (a .out .now) 0 refusedWord
+    let a = c .before .before .before .before .before .before .before .before .before .before .before .args in
+    let put = c .before .before .before .before .before .before .before .put-bytes .ensures in
+    then-kept refusedWord (line (a .number) (a .table ∷ a .«record» ∷ [])) (a .out .now) (put .1) (put .0) (c .before .before .put-line .ensures .1)
 
 returns : tie.Need-returns
 unfolding refusedText refusedWord
 returns c =
-    let start = c .before .before .before .before .before .before .before .before .before .before .before in
-    let put = c .before .before .before .before .before .before .before .put-bytes in
-    let end = c .before .before .put-line in
-    let a = start .args in
-    then-stored refusedWord (line (a .number) (a .table ∷ a .«record» ∷ [])) (a .out .now) (put .last .1 .0) (end .last .1 .1 .0) (put .result) (end .result) (put .ensures .1) (put .ensures .0) (end .ensures .1) (end .ensures .0)
+    let a = c .before .before .before .before .before .before .before .before .before .before .before .args in
+    let put = c .before .before .before .before .before .before .before .put-bytes .ensures in
+    let end = c .before .before .put-line .ensures in
+    then-stored refusedWord (line (a .number) (a .table ∷ a .«record» ∷ [])) (a .out .now) (put .1) (put .0) (end .1) (end .0)
 
 pub write-refused-spec : {M : Type 1} → statement M
 write-refused-spec =

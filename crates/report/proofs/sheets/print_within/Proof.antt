@@ -1,10 +1,5 @@
 -- `report::sheets::print_within` meets its contract. Assumes nothing.
-use Prim.Native.Nat.{ℕ}
-use mathlib.Core.List.{List}
-use mathlib.Core.Path.{_∙_, ap}
 use borrow.Author.Needs.{needs}
-use lib.ListN.{length}
-use Rattle.report.specs.Printing.{answerFor, bufferWith}
 use Rattle.report.specs.Sheet.{sheetText, sheetRoom}
 use Rattle.report.proofs.Lines.{sheet-fits}
 use Rattle.report.proofs.Stores.{Front, in-room}
@@ -18,10 +13,11 @@ write-sheet-requires : tie.Need-write-sheet-requires
 write-sheet-requires c κs = search needs
 
 -- the text is in the room
-written : (c : tie.After-write-sheet) → Front (sheetText (c .before .before .before .before .args .book .now)) (c .write-sheet .last .1 .0) (c .write-sheet .result)
-written c =
-    let start = c .before .before .before .before in
-    in-room sheetRoom _ _ _ (c .write-sheet .ensures .1) (c .write-sheet .ensures .0) (sheet-fits (start .args .book .now) (start .pre))
+abbrev start : tie.After-write-sheet → tie.Start
+start c = c .before .before .before .before
+
+written : (c : tie.After-write-sheet) → Front (sheetText (start c .args .book .now)) (c .write-sheet .last .1 .0) (c .write-sheet .result)
+written c = in-room sheetRoom (c .write-sheet .ensures .1) (c .write-sheet .ensures .0) (sheet-fits _ (start c .pre))
 
 array-share-prefix-room : tie.Need-array-share-prefix-room
 array-share-prefix-room c = written (c .before) .inside
@@ -37,10 +33,7 @@ same-length c = search needs
 
 returns : tie.Need-returns
 returns c =
-    let over = c .before .before .hand-over in
-    let out = c .before .before .before .before .before .before .before .before .before .before .args .out .now in
-    let text = written (c .before .before .before .before .before .before) .is-text in
-    (over .ensures .0 ∙ ap (λ (t : List ℕ). answerFor t (length out)) text, over .ensures .1 ∙ ap (λ (t : List ℕ). bufferWith t out) text)
+    rw (← written (c .before .before .before .before .before .before) .is-text) (c .before .before .hand-over .ensures)
 
 pub print-within-spec : {M : Type 1} → statement M
 print-within-spec =

@@ -1,11 +1,9 @@
 -- `report::sheets::put_chain` meets its contract. Assumes nothing.
-use Prim.Native.Nat.{ℕ, _+_}
 use native.Mathlib.Omega.{arith}
-use mathlib.Core.List.{List}
 use mathlib.Core.Path.{_≡_, _∙_, ap}
 use borrow.Author.Needs.{needs}
 use lib.ListN.{length}
-use lib.Seq.{sets, length-sets}
+use lib.Seq.{length-sets}
 use Rattle.book.proofs.Laws.{statement-accepted}
 use Rattle.book.specs.declared.replies.Statement.{Statement}
 use Rattle.report.specs.Sheet.{statementNumbers, chainLine}
@@ -20,33 +18,26 @@ slice-aggregate-put-line : tie.Need-slice-aggregate-put-line
 slice-aggregate-put-line c = search needs
 
 -- the line is that of the chain's statement
-is-line : (c : tie.After-statement-sound) → line (c .before .before .before .args .chain) (statementNumbers (c .statement-sound .result)) ≡ chainLine (c .before .before .before .args .book .now) (c .before .before .before .args .chain)
+abbrev start : tie.After-statement-sound → tie.Start
+start c = c .before .before .before
+
+is-line : (c : tie.After-statement-sound)
+    → line (start c .args .chain) (statementNumbers (c .statement-sound .result)) ≡ chainLine (start c .args .book .now) (start c .args .chain)
 unfolding chainLine
 is-line c =
-    let start = c .before .before .before in
-    ap (λ (s : Statement). line (start .args .chain) (statementNumbers s))
-    (c .statement-sound .ensures ∙ statement-accepted (start .args .book .now) (start .args .chain) (start .pre .0) (start .pre .1 .0))
+    let s = start c in
+    ap (λ (said : Statement). line (s .args .chain) (statementNumbers said))
+    (c .statement-sound .ensures ∙ statement-accepted (s .args .book .now) (s .args .chain) (s .pre .0) (s .pre .1 .0))
 
 put-line-requires : tie.Need-put-line-requires
 put-line-requires c κs =
-    let start = c .before .before .before .before .before in
-    omega (arith, start .pre .1 .1, ap length (is-line (c .before .before)))
+    omega (arith, start (c .before .before) .pre .1 .1, ap length (is-line (c .before .before)))
 
 same-length : tie.Need-same-length
-same-length c =
-    let start = c .before .before .before .before .before .before .before .before in
-    let said = c .before .before .before .before .before in
-    ap length (c .before .before .put-line .ensures .1)
-    ∙ length-sets (start .args .out .now) (start .args .at) (line (start .args .chain) (statementNumbers (said .statement-sound .result)))
+same-length c = ap length (c .before .before .put-line .ensures .1) ∙ simp length-sets
 
 returns : tie.Need-returns
-returns c =
-    let start = c .before .before .before .before .before .before .before .before in
-    let same = is-line (c .before .before .before .before .before) in
-    let put = c .before .before .put-line in (
-      put .ensures .0 ∙ ap (λ (l : List ℕ). start .args .at + length l) same,
-      put .ensures .1 ∙ ap (λ (l : List ℕ). sets (start .args .out .now) (start .args .at) l) same,
-    )
+returns c = rw (← is-line (c .before .before .before .before .before)) (c .before .before .put-line .ensures)
 
 pub put-chain-spec : {M : Type 1} → statement M
 put-chain-spec =

@@ -1,24 +1,20 @@
--- `report::text::put_bytes` meets its contract. The loop's invariant: storing the bytes that are left gives what storing all
--- gives. Assumes nothing.
-use Prim.Native.Nat.{_+_, _-_, _≤_}
-use native.Mathlib.Nat.{add-zero}
+-- `report::text::put_bytes` meets its contract: the bytes are stored one by one. Assumes nothing.
+use Prim.Native.Nat.{_-_}
 use native.Mathlib.Omega.{arith}
-use mathlib.Core.Path.{_≡_, refl, _∙_, sym}
 use borrow.Author.Needs.{needs}
-use lib.ListN.{length, drop, length-set}
-use lib.Seq.{sets}
-use Rattle.report.proofs.Stores.{sets-step, sets-done}
+use lib.ListN.{length}
+use Rattle.book_words.proofs.Writes.{Storing, storing-start, storing-next, storing-done}
 use Rattle.report.proofs.text.put_bytes.Statement.{statement}
 use Rattle.report.proofs.text.put_bytes.Tie as tie
 
 abbrev Inv-loop : tie.InvT-loop
-Inv-loop bytes out₀ at i₀ out i = (i ≤ length bytes) × (length out ≡ length out₀) × (sets out (at + i) (drop i bytes) ≡ sets out₀ at bytes)
+Inv-loop bytes out₀ at i₀ out i = Storing bytes out₀ at i out
 
 abbrev μ-loop : tie.MeasureT-loop
 μ-loop bytes out₀ at i₀ out i = length bytes - i
 
 loop-holds : tie.Need-loop-holds Inv-loop μ-loop
-loop-holds c = (omega arith, refl, rw add-zero)
+loop-holds c = storing-start _ _ _
 
 shared-slice-read-out : tie.Need-shared-slice-read-out Inv-loop μ-loop
 shared-slice-read-out c = search needs
@@ -36,13 +32,7 @@ loop-less : tie.Need-loop-less Inv-loop μ-loop
 loop-less c = search needs
 
 loop-again : tie.Need-loop-again Inv-loop μ-loop
-loop-again c =
-    let turn = c .before .before in
-    let start = turn .before in (
-      omega (arith, c .before .loop-test .taken),
-      length-set (turn .loop .out) _ _ ∙ turn .loop .inv .1,
-      sets-step (start .args .bytes .now) (turn .loop .out) (start .args .at) (turn .loop .i) (c .before .loop-test .taken) ∙ turn .loop .inv .2,
-    )
+loop-again c = storing-next (c .before .before .loop .inv) (c .before .loop-test .taken)
 
 add-result : tie.Need-add-result Inv-loop μ-loop
 add-result c = search needs
@@ -51,11 +41,7 @@ same-length : tie.Need-same-length Inv-loop μ-loop
 same-length c = search needs
 
 returns : tie.Need-returns Inv-loop μ-loop
-returns c =
-    let start = c .before .before in (
-      omega (arith, c .loop-test .left),
-      sym (sets-done (start .args .bytes .now) (c .before .loop .out) (start .args .at + c .before .loop .i) (c .before .loop .i) (c .loop-test .left)) ∙ c .before .loop .inv .2,
-    )
+returns c = (omega (arith, c .loop-test .left), storing-done (c .before .loop .inv) (c .loop-test .left))
 
 pub put-bytes-spec : {M : Type 1} → statement M
 put-bytes-spec =

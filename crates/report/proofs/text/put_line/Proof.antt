@@ -1,11 +1,11 @@
 -- `report::text::put_line` meets its contract. The loop's invariant: storing the rest of the line gives what storing all of it
 -- gives. Assumes nothing.
-use Prim.Native.Nat.{_+_, _-_, _≤_}
+use Prim.Native.Nat.{ℕ, _+_, _-_, _≤_}
 use native.Mathlib.Omega.{arith}
-use mathlib.Core.List.{[], _∷_}
+use mathlib.Core.List.{List, [], _∷_}
 use mathlib.Core.Path.{_≡_, refl, _∙_, sym, ap}
 use borrow.Author.Needs.{needs}
-use lib.ListN.{length, getD, set, length-set}
+use lib.ListN.{length, getD, length-set}
 use lib.Seq.{sets, length-sets}
 use Rattle.report.specs.Text.{decimal}
 use Rattle.report.proofs.Lines.{restOf, rest-stored, rest-length, rest-end, line-parts, line-length}
@@ -15,7 +15,9 @@ use Rattle.report.proofs.text.put_line.Tie as tie
 
 abbrev Inv-loop : tie.InvT-loop
 Inv-loop first rest out₀ at end₀ i₀ out end i =
-    (i ≤ length rest) × (length out ≡ length out₀) × (end + length (restOf rest i) ≡ end₀ + length (restOf rest 0)) × (sets out end (restOf rest i) ≡ sets out₀ end₀ (restOf rest 0))
+    (i ≤ length rest)
+    × (end + length (restOf rest i) ≡ end₀ + length (restOf rest 0))
+    × (sets out end (restOf rest i) ≡ sets out₀ end₀ (restOf rest 0))
 
 abbrev μ-loop : tie.MeasureT-loop
 μ-loop first rest out₀ at end₀ i₀ out end i = length rest - i
@@ -26,26 +28,32 @@ put-number-requires c κs =
     omega (arith, start .pre, line-length (start .args .first) (start .args .rest .now))
 
 loop-holds : tie.Need-loop-holds Inv-loop μ-loop
-loop-holds c = (omega arith, refl, refl, refl)
+loop-holds c = (omega arith, refl, refl)
+
+abbrev start : tie.At-loop Inv-loop μ-loop → tie.Start Inv-loop μ-loop
+start c = c .before .before .before .before .before .before .before
+
+abbrev rest : tie.At-loop Inv-loop μ-loop → List ℕ
+rest c = start c .args .rest .now
+
+-- the buffer is as long as it was
+kept : (c : tie.At-loop Inv-loop μ-loop) → length (c .loop .out) ≡ length (start c .args .out .now)
+kept c =
+    let put = c .before .before .before .put-number in
+    sym (length-sets (c .loop .out) (c .loop .end) (restOf (rest c) (c .loop .i)))
+    ∙ ap length (c .loop .inv .2 ∙ ap (λ (l : List ℕ). sets l (put .result) (restOf (rest c) 0)) (put .ensures .1))
+    ∙ simp length-sets
 
 -- the rest of the line has room
-inside : (c : tie.At-loop Inv-loop μ-loop) → c .loop .end + length (restOf (c .before .before .before .before .before .before .before .args .rest .now) (c .loop .i)) ≤ length (c .loop .out)
+inside : (c : tie.At-loop Inv-loop μ-loop) → c .loop .end + length (restOf (rest c) (c .loop .i)) ≤ length (c .loop .out)
 inside c =
     let put = c .before .before .before .put-number in
-    let start = c .before .before .before .before .before .before .before in
-    omega (
-      arith,
-      c .loop .inv .1,
-      c .loop .inv .2,
-      put .ensures .0,
-      ap length (put .ensures .1) ∙ length-sets (start .args .out .now) (start .args .at) (decimal (start .args .first)),
-      line-length (start .args .first) (start .args .rest .now),
-      start .pre,
-    )
+    omega (arith, c .loop .inv .1, put .ensures .0, kept c, line-length (start c .args .first) (rest c), start c .pre)
 
 -- and so has one number more of it
-room : (c : tie.In-loop Inv-loop μ-loop) → c .before .loop .end + 1 + length (decimal (getD (c .before .before .before .before .before .before .before .before .args .rest .now) (c .before .loop .i) 0)) ≤ length (c .before .loop .out)
-room c = omega (arith, inside (c .before), rest-length (c .before .before .before .before .before .before .before .before .args .rest .now) (c .before .loop .i) (c .loop-test .taken))
+room : (c : tie.In-loop Inv-loop μ-loop)
+    → c .before .loop .end + 1 + length (decimal (getD (rest (c .before)) (c .before .loop .i) 0)) ≤ length (c .before .loop .out)
+room c = omega (arith, inside (c .before), rest-length (rest (c .before)) (c .before .loop .i) (c .loop-test .taken))
 
 slice-write-out : tie.Need-slice-write-out Inv-loop μ-loop
 slice-write-out c = omega (arith, room c)
@@ -57,7 +65,7 @@ shared-slice-read-put-number : tie.Need-shared-slice-read-put-number Inv-loop μ
 shared-slice-read-put-number c = search needs
 
 add-put-number : tie.Need-add-put-number Inv-loop μ-loop
-add-put-number c = omega (arith, room (c .before .before))
+add-put-number c = omega (arith, room (c .before .before), kept (c .before .before .before))
 
 put-number-requires-2 : tie.Need-put-number-requires-2 Inv-loop μ-loop
 put-number-requires-2 c κs = simp length-set (omega (arith, room (c .before .before)))
@@ -71,40 +79,35 @@ loop-less c = search needs
 loop-again : tie.Need-loop-again Inv-loop μ-loop
 loop-again c =
     let head = c .before .before .before .before .before .before in
-    let start = head .before .before .before .before .before .before .before in
+    let at = head .loop in
     let put = c .before .before .put-number2 in
-    let turn = c .before .before .before .before .before in (
+    let some = c .before .before .before .before .before .loop-test .taken in (
       omega arith,
-      ap length (put .ensures .1) ∙ length-sets (set (head .loop .out) (head .loop .end) 32) (head .loop .end + 1) (decimal (getD (start .args .rest .now) (head .loop .i) 0)) ∙ length-set (head .loop .out) _ _ ∙ head .loop .inv .1,
-      omega (arith, put .ensures .0, head .loop .inv .2, rest-length (start .args .rest .now) (head .loop .i) (turn .loop-test .taken)),
-      rw (put .ensures .0, put .ensures .1) (rest-stored (start .args .rest .now) (head .loop .out) (head .loop .end) (head .loop .i) (turn .loop-test .taken) ∙ head .loop .inv .3),
+      omega (arith, put .ensures .0, at .inv .1, rest-length (rest head) (at .i) some),
+      rw (put .ensures .0, put .ensures .1) (rest-stored (rest head) (at .out) (at .end) (at .i) some ∙ at .inv .2),
     )
 
 -- after the last number only the newline is left
-ended : (c : tie.After-loop Inv-loop μ-loop) → restOf (c .before .before .before .before .before .before .before .before .args .rest .now) (c .before .loop .i) ≡ 10 ∷ []
-ended c = rest-end (c .before .before .before .before .before .before .before .before .args .rest .now) (c .before .loop .i) (c .loop-test .left)
+ended : (c : tie.After-loop Inv-loop μ-loop) → restOf (rest (c .before)) (c .before .loop .i) ≡ 10 ∷ []
+ended c = rest-end (rest (c .before)) (c .before .loop .i) (c .loop-test .left)
 
 slice-write-out-2 : tie.Need-slice-write-out-2 Inv-loop μ-loop
 slice-write-out-2 c = omega (arith, inside (c .before), ap length (ended c))
 
 add-result : tie.Need-add-result Inv-loop μ-loop
-add-result c = omega (arith, inside (c .before), ap length (ended c))
+add-result c = omega (arith, inside (c .before), ap length (ended c), kept (c .before))
 
 same-length : tie.Need-same-length Inv-loop μ-loop
-same-length c =
-    let put = c .before .before .before .before .put-number in
-    let start = c .before .before .before .before .before .before .before .before in
-    length-set (c .before .loop .out) _ _ ∙ c .before .loop .inv .1 ∙ ap length (put .ensures .1) ∙ length-sets (start .args .out .now) (start .args .at) (decimal (start .args .first))
+same-length c = length-set (c .before .loop .out) _ _ ∙ kept (c .before)
 
 returns : tie.Need-returns Inv-loop μ-loop
 returns c =
     let put = c .before .before .before .before .put-number in
-    let start = c .before .before .before .before .before .before .before .before in
-    let first = start .args .first in
-    let rest = start .args .rest .now in
-    let stored = rw (ended c) at (c .before .loop .inv .3) in (
-      omega (arith, c .before .loop .inv .2, ap length (ended c), put .ensures .0, line-length first rest),
-      stored ∙ rw (put .ensures .0, put .ensures .1, line-parts) (sym (sets-append (decimal first) (restOf rest 0) (start .args .out .now) (start .args .at))),
+    let args = start (c .before) .args in
+    let stored = rw (ended c) at (c .before .loop .inv .2) in
+    let parts = sets-append (decimal (args .first)) (restOf (rest (c .before)) 0) (args .out .now) (args .at) in (
+      omega (arith, c .before .loop .inv .1, ap length (ended c), put .ensures .0, line-length (args .first) (rest (c .before))),
+      stored ∙ rw (put .ensures .0, put .ensures .1, line-parts) (sym parts),
     )
 
 pub put-line-spec : {M : Type 1} → statement M

@@ -1,5 +1,5 @@
 -- `report::text::put_number` meets its contract: its digits are stored from the last to the first. Assumes nothing.
-use Prim.Native.Nat.{_<_, _-_}
+use Prim.Native.Nat.{_<_}
 use native.Mathlib.Omega.{arith}
 use mathlib.Core.Path.{_≡_, refl, _∙_}
 use borrow.Author.Needs.{needs}
@@ -22,11 +22,10 @@ sub-left c = omega (arith, c .digit-count .ensures, count-some (c .before .befor
 
 loop-holds : tie.Need-loop-holds Inv-loop μ-loop
 loop-holds c =
-    let start = c .before .before in
-    let some = count-some (start .args .number) (omega arith) in (
+    let some = count-some (c .before .before .args .number) (omega arith) in (
       omega (arith, c .digit-count .ensures, some),
       refl,
-      stored-start (start .args .number) (start .args .at) (start .args .out .now) (omega arith) (c .digit-count .result - 1) (omega (arith, c .digit-count .ensures, some)),
+      stored-start (omega arith) (omega (arith, c .digit-count .ensures, some)),
     )
 
 cast-out : tie.Need-cast-out Inv-loop μ-loop
@@ -48,12 +47,11 @@ loop-less : tie.Need-loop-less Inv-loop μ-loop
 loop-less c = search needs
 
 loop-again : tie.Need-loop-again Inv-loop μ-loop
-loop-again c =
-    let start = c .before .before .before .before in (
-      omega arith,
-      length-set (c .before .loop .out) _ _ ∙ c .before .loop .inv .1,
-      stored-next (start .args .number) (start .args .at) (start .args .out .now) (c .before .loop .left) (c .before .loop .rest) (c .before .loop .out) (c .loop-test .taken) (c .before .loop .inv .2),
-    )
+loop-again c = (
+  omega arith,
+  length-set (c .before .loop .out) _ _ ∙ c .before .loop .inv .1,
+  stored-next _ (c .loop-test .taken) (c .before .loop .inv .2),
+)
 
 cast-out-2 : tie.Need-cast-out-2 Inv-loop μ-loop
 cast-out-2 c = omega arith
@@ -71,13 +69,7 @@ same-length : tie.Need-same-length Inv-loop μ-loop
 same-length c = search needs
 
 returns : tie.Need-returns Inv-loop μ-loop
-returns c =
-    let start = c .before .before .before .before in
-    let none : c .before .loop .left ≡ 0 = omega arith in
-    let last : Stored (start .args .number) (start .args .at) (start .args .out .now) 0 (c .before .loop .rest) (c .before .loop .out) = rw none at (c .before .loop .inv .2) in (
-      omega (arith, c .before .before .digit-count .ensures),
-      stored-last (start .args .number) (start .args .at) (start .args .out .now) (c .before .loop .rest) (c .before .loop .out) last,
-    )
+returns c = (omega (arith, c .before .before .digit-count .ensures), stored-last _ (omega arith) (c .before .loop .inv .2))
 
 pub put-number-spec : {M : Type 1} → statement M
 put-number-spec =

@@ -1,0 +1,35 @@
+-- `book::quoting::nearest_thousandth` meets its contract: the thousands of the product and what is left of it, each
+-- multiplied within 64 bits, make the amount. Assumes nothing.
+use Prim.Native.Nat.{_≤_, ℕ, _*_, _%_}
+use native.Mathlib.Nat.{mul-le-mul}
+use native.Mathlib.Omega.{arith}
+use borrow.Author.Needs.{needs}
+use Rattle.book_words.proofs.Capping.{capped-add}
+use Rattle.book.proofs.Quotes.{thousands-apart}
+use Rattle.book.proofs.quoting.nearest_thousandth.Statement.{statement}
+use Rattle.book.proofs.quoting.nearest_thousandth.Tie as tie
+
+-- the product of the intensity and what is left of an product
+rest-small : (intensity product : ℕ) → intensity ≤ 1_000_000_000 → intensity * (product % 1000) ≤ 1_000_000_000 * 999
+rest-small intensity product h =
+    let rest : product % 1000 ≤ 999 = omega arith in
+    mul-le-mul h rest
+
+multiply-requires : tie.Need-multiply-requires
+multiply-requires c κs = search needs
+
+mul-rest : tie.Need-mul-rest
+mul-rest c = omega (arith, rest-small (c .before .args .intensity) (c .before .args .product) (c .before .pre))
+
+add-rest : tie.Need-add-rest
+add-rest c = omega (arith, rest-small (c .before .args .intensity) (c .before .args .product) (c .before .pre))
+
+add-requires : tie.Need-add-requires
+add-requires c κs = search needs
+
+returns : tie.Need-returns
+returns c = rw (c .add .ensures, c .before .multiply .ensures, capped-add, thousands-apart)
+
+pub nearest-thousandth-spec : {M : Type 1} → statement M
+nearest-thousandth-spec =
+    tie.close (tie.spec multiply-requires mul-rest add-rest add-requires returns)
