@@ -14,7 +14,7 @@ import sys
 ROOT = os.path.dirname(os.path.dirname(os.path.abspath(__file__)))
 sys.path.insert(0, os.path.join(ROOT, "tools"))
 
-from file_writer import EXAMPLE, file_of  # noqa: E402
+from cases.file_writer import EXAMPLE, file_of  # noqa: E402
 
 CHILLED, FROZEN = 1, 2
 

@@ -31,7 +31,7 @@ import re
 import sys
 from collections import namedtuple
 
-from file_writer import (
+from cases.file_writer import (
     HEADER_BYTES, MOST_BYTES, SIZES, SMALL_FIELDS, file_of)
 
 MOST_SHOWN = 10   # bad lines that are told of

@@ -10,7 +10,8 @@ use native.Mathlib.Omega.{arith}
 use lib.Dec.{eqb}
 use lib.ListN.{length, drop, getD, drop-of-length-le}
 use lib.Seq.{drop-cons}
-use Rattle.apportion.specs.Grounds.{accepted, Ground, firstOf, groundsBefore, groundsOf}
+use Rattle.apportion.specs.Grounds.{accepted, Ground, firstOf, groundsOf}
+use Rattle.apportion.specs.Inner.Grounds.{groundsBefore}
 
 pub or-none : (a b : Bool) → a || b ≡ false → (a ≡ false) × (b ≡ false)
 or-none true b e = absurd (true≢false e)

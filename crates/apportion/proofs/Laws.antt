@@ -1,4 +1,4 @@
--- The laws of the dividing rule, for the crates above: they cite these and not the definition's text.
+-- The laws of the dividing rule, for the crates above. Of these only `conservation`'s computed table opens the definition.
 -- Assumes nothing.
 use mathlib.Core.Path.{_≡_, ap, _∙_}
 use mathlib.Core.Logic.{inl, ⊎-elim}
@@ -13,10 +13,10 @@ use Rattle.apportion.specs.Nearness.{Within}
 use Rattle.apportion.specs.Dividing.{floorAt, remainderAt, leftOver, unitAt, shareAt, divided, Divisible}
 use Rattle.apportion.proofs.Sums.{below-or-not, sum-add}
 use Rattle.apportion.proofs.Lists.{list-length, list-at, list-cong, list-past, list-sum}
-use Rattle.apportion.proofs.Ranks.{before-larger, before-equal, unit-before}
-use Rattle.apportion.proofs.Shares.{floor-none, remainder-none, left-and-floors, unit-none, unit-of-none, unit-most, units-left}
-pub use Rattle.apportion.proofs.Shares.{product, remainder-less}
-pub use Rattle.apportion.proofs.Omitting.{divided-kept}
+use Rattle.apportion.proofs.UnitsByBound.{before-larger, before-equal, unit-before}
+use Rattle.apportion.proofs.FloorsAndUnits.{floor-none, remainder-none, left-and-floors, unit-none, unit-of-none, unit-most, units-left}
+pub use Rattle.apportion.proofs.FloorsAndUnits.{product, remainder-less}
+pub use Rattle.apportion.proofs.PlacesLeftOut.{divided-kept}
 
 module _ (pool : ℕ) (weights : List ℕ) where
   -- there is a share for each weight
@@ -98,7 +98,7 @@ module _ (pool : ℕ) (weights : List ℕ) where
   larger-first j k l =
       unit-before (length weights) (remainderAt pool weights) (leftOver pool weights) j k (before-larger (remainderAt pool weights) j k l)
 
-  -- and of equal remainders the earlier place is served first.
+  -- and of equal remainders the earlier place gets its unit first.
   pub earlier-first : (j k : ℕ) → remainderAt pool weights j ≡ remainderAt pool weights k → j < k → unitAt pool weights k ≤ unitAt pool weights j
   unfolding unitAt
   earlier-first j k e l =

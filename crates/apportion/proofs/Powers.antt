@@ -13,8 +13,8 @@ use lib.Pow.{pow-mono}
 use lib.ListN.{length, set, length-set}
 use lib.Seq.{getD-set-same, getD-set-other}
 use Rattle.apportion.specs.Places.{at}
-use Rattle.apportion.specs.Dividing.{largest}
-use Rattle.apportion.specs.Products.{Powers}
+use Rattle.apportion.specs.Dividing.{mostTotal}
+use Rattle.apportion.specs.Inner.Products.{Powers}
 use Rattle.apportion.proofs.Sums.{below-or-not}
 
 -- the next power of two, as the code makes it
@@ -30,8 +30,8 @@ power-below b bit most within over =
     (below-or-not b bit)
 
 -- one within 10^18 is below the 60th
-pub bit-small : (bit : ℕ) → 2 ^ bit ≤ largest → bit < 60
-bit-small bit h = power-below bit 60 largest h (omega arith)
+pub bit-small : (bit : ℕ) → 2 ^ bit ≤ mostTotal → bit < 60
+bit-small bit h = power-below bit 60 mostTotal h (omega arith)
 
 -- The tables hold the powers below `bit`, and the next one is at hand.
 pub record Making (pool total : ℕ) (quotients remainders : List ℕ) (quotient remainder step bit : ℕ) : Type 0 where

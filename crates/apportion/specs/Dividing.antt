@@ -56,9 +56,13 @@ Divisible pool weights = (0 < sumOf weights) ⊎ (pool ≡ 0)
 abbrev pub mostPlaces : ℕ
 mostPlaces = 256
 
--- 10^18, the largest pool and the largest T
-abbrev pub largest : ℕ
-largest = 1_000_000_000_000_000_000
+-- the limit of "a pool .. over 10^18"
+abbrev pub mostPool : ℕ
+mostPool = 1_000_000_000_000_000_000
+
+-- and of "T over 10^18"
+abbrev pub mostTotal : ℕ
+mostTotal = 1_000_000_000_000_000_000
 
 -- "Called by itself the rule refuses .. : with 1 a share slice of another length than the weights or a length over
 -- 256, then with 9 a pool above 0 whose T is 0, then with 10 a pool or T over 10^18." `places` is the number of weights,
@@ -67,7 +71,7 @@ abbrev pub grounds : ℕ → ℕ → ℕ → ℕ → List Ground
 grounds pool places slots T =
     (1, not (eqb slots places) || ltb mostPlaces places)
     ∷ (9, ltb 0 pool && eqb T 0)
-    ∷ (10, ltb largest pool || ltb largest T)
+    ∷ (10, ltb mostPool pool || ltb mostTotal T)
     ∷ []
 
 unfoldable pub refusal : ℕ → ℕ → ℕ → ℕ → ℕ

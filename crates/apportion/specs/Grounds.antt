@@ -1,9 +1,7 @@
--- "Grounds, in checking order": a call answers the number of the first ground whose condition holds, or 0.
--- Assumes nothing.
+-- "Grounds, in checking order". Assumes nothing.
 use mathlib.Core.Bool.{Bool, cond}
 use mathlib.Core.List.{List, [], _∷_}
 use Prim.Native.Nat.{ℕ, zero, suc}
-use lib.Dec.{eqb}
 
 -- a refusal number and its condition
 abbrev pub Ground : Type 0
@@ -13,11 +11,6 @@ Ground = ℕ × Bool
 abbrev pub firstOf : List Ground → ℕ
 firstOf [] = 0
 firstOf (g ∷ gs) = cond (g .1) (g .0) (firstOf gs)
-
--- the grounds before that of this number
-abbrev pub groundsBefore : ℕ → List Ground → List Ground
-groundsBefore number [] = []
-groundsBefore number (g ∷ gs) = cond (eqb number (g .0)) [] (g ∷ groundsBefore number gs)
 
 -- grounds by their numbers and their conditions, in order
 abbrev pub groundsOf : List ℕ → List Bool → List Ground

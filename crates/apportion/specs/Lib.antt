@@ -1,6 +1,6 @@
+-- What a reader has to believe. `Inner` serves the contracts of inner functions.
 pub mod Places
 pub mod Grounds
 pub mod Dividing
 pub mod Nearness
-pub mod Products
-pub mod Serving
+pub mod Inner

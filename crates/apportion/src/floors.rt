@@ -3,8 +3,8 @@ ghost use mathlib.Core.Path.{_≡_};
 ghost use Prim.Native.Nat.{_+_, _*_, _/_, _%_, _≤_, _<_};
 ghost use lib.ListN.{length};
 ghost use Rattle.apportion.specs.Places.{listBelow, sumOf};
-ghost use Rattle.apportion.specs.Dividing.{largest, floorAt, remainderAt, leftOver};
-ghost use Rattle.apportion.specs.Products.{Accepted, Powers};
+ghost use Rattle.apportion.specs.Dividing.{mostPool, mostTotal, floorAt, remainderAt, leftOver};
+ghost use Rattle.apportion.specs.Inner.Products.{Accepted, Powers};
 
 // A number by its quotient and its remainder.
 struct Division {
@@ -13,9 +13,9 @@ struct Division {
 }
 
 // The sum of two numbers that are held by the same total.
-fn plus(a: Division, b: Division, total: u64) -> Division
-    requires { ⌜ (a .quotient ≤ largest) × (b .quotient ≤ largest) ⌝ }
-    requires { ⌜ (a .remainder < total) × (b .remainder < total) × (total ≤ largest) ⌝ }
+fn add(a: Division, b: Division, total: u64) -> Division
+    requires { ⌜ (a .quotient ≤ mostPool) × (b .quotient ≤ mostPool) ⌝ }
+    requires { ⌜ (a .remainder < total) × (b .remainder < total) × (total ≤ mostTotal) ⌝ }
     ensures { λ r. ⌜ r .quotient * total + r .remainder ≡ (a .quotient + b .quotient) * total + (a .remainder + b .remainder) ⌝ }
     ensures { λ r. ⌜ r .remainder < total ⌝ }
 {
@@ -48,7 +48,7 @@ fn set_powers(pool: u64, total: u64, quotients: &mut [u64], remainders: &mut [u6
     while step <= total {
         quotients[bit] = power.quotient;
         remainders[bit] = power.remainder;
-        power = plus(power, power, total);
+        power = add(power, power, total);
         step += step;
         bit += 1;
     }
@@ -79,7 +79,7 @@ fn divide_product(
                 quotient: quotients[bit],
                 remainder: remainders[bit],
             };
-            sum = plus(sum, power, total);
+            sum = add(sum, power, total);
         }
         rest /= 2;
         bit += 1;

@@ -8,18 +8,21 @@ ghost use mathlib.Core.Path.{_≡_};
 ghost use Prim.Native.Nat.{min, suc};
 ghost use lib.ListN.{length};
 ghost use Rattle.apportion.specs.Places.{sumOf, listBelow};
-ghost use Rattle.apportion.specs.Dividing.{largest, refusal, remainderAt, divided, sharesAfter};
-ghost use Rattle.apportion.specs.Products.{Accepted};
+ghost use Rattle.apportion.specs.Dividing.{mostTotal, refusal, remainderAt, divided, sharesAfter};
+ghost use Rattle.apportion.specs.Inner.Products.{Accepted};
 use floors::set_floors;
 pub use refusing::first_of;
 use units::add_units;
-use units::least_served;
+use units::unit_bound;
 
 // The most places of a division.
 const MOST_PLACES: usize = 256;
 
-// The largest pool and the largest sum of weights, 10^18.
-const LARGEST: u64 = 1_000_000_000_000_000_000;
+// The largest pool.
+const MOST_POOL: u64 = 1_000_000_000_000_000_000;
+
+// The largest sum of weights.
+const MOST_TOTAL: u64 = 1_000_000_000_000_000_000;
 
 // Divides the pool over the weights into the shares, and answers the refusal number: 1, 9 or 10 with
 // no share written, or 0.
@@ -50,7 +53,7 @@ fn refusal_number(pool: u64, places: usize, slots: usize, total: u64) -> u64
 {
     let unfit = (slots != places) | (places > MOST_PLACES);
     let indivisible = (pool > 0) & (total == 0);
-    let too_large = (pool > LARGEST) | (total > LARGEST);
+    let too_large = (pool > MOST_POOL) | (total > MOST_TOTAL);
     first_of(&[1, 9, 10], &[unfit, indivisible, too_large])
 }
 
@@ -78,20 +81,20 @@ fn share_some(pool: u64, total: u64, weights: &[u64], shares: &mut [u64], remain
     ensures { λ _. ⌜ now (remainders .exit) ≡ listBelow (length (now (weights .entry))) (remainderAt pool (now (weights .entry))) ⌝ }
 {
     let left = set_floors(pool, total, weights, shares, remainders);
-    let least = least_served(remainders, total, left);
+    let least = unit_bound(remainders, total, left);
     add_units(remainders, least, left, shares);
 }
 
 // The sum of the weights where that is at most 10^18, and 10^18 + 1 where it is more.
 fn capped_total(weights: &[u64]) -> u64
-    ensures { λ r. ⌜ r ≡ min (sumOf (now (weights .entry))) (suc largest) ⌝ }
+    ensures { λ r. ⌜ r ≡ min (sumOf (now (weights .entry))) (suc mostTotal) ⌝ }
 {
     let mut sum = 0;
     let mut k = 0;
     while k < weights.len() {
         let weight = weights[k];
-        if weight > LARGEST - sum {
-            return LARGEST + 1;
+        if weight > MOST_TOTAL - sum {
+            return MOST_TOTAL + 1;
         }
         sum += weight;
         k += 1;

@@ -3,8 +3,8 @@ ghost use mathlib.Core.Path.{_≡_};
 ghost use Prim.Native.Nat.{ℕ, _≤_, _<_};
 ghost use lib.ListN.{length};
 ghost use Rattle.apportion.specs.Places.{at};
-ghost use Rattle.apportion.specs.Dividing.{largest};
-ghost use Rattle.apportion.specs.Serving.{countAtLeast, Bound, unitBy, withUnits};
+ghost use Rattle.apportion.specs.Dividing.{mostPool, mostTotal};
+ghost use Rattle.apportion.specs.Inner.Units.{countAtLeast, Bound, unitBy, withUnits};
 
 // How many remainders are at least the bound.
 fn count_at_least(remainders: &[u64], bound: u64) -> u64
@@ -22,7 +22,7 @@ fn count_at_least(remainders: &[u64], bound: u64) -> u64
 }
 
 // A bound by which the units left over are handed out, found by halving the range 0 to total.
-pub fn least_served(remainders: &[u64], total: u64, left: u64) -> u64
+pub fn unit_bound(remainders: &[u64], total: u64, left: u64) -> u64
     requires { ⌜ (0 < total) × (countAtLeast (now remainders) total ≤ left) × (left ≤ countAtLeast (now remainders) 0) ⌝ }
     ensures { λ r. ⌜ Bound (now (remainders .entry)) left r ⌝ }
     ensures { λ r. ⌜ r < total ⌝ }
@@ -64,9 +64,9 @@ fn unit_by(remainder: u64, least: u64, earlier: u64, equal: u64) -> u64
 // Adds one unit to the share of each place above the bound, and of those at the bound to the earlier.
 pub fn add_units(remainders: &[u64], least: u64, left: u64, shares: &mut [u64])
     requires { ⌜ Bound (now remainders) left least ⌝ }
-    requires { ⌜ least < largest ⌝ }
+    requires { ⌜ least < mostTotal ⌝ }
     requires { ⌜ length (now shares) ≡ length (now remainders) ⌝ }
-    requires { ⌜ ((k : ℕ) → at (now shares) k ≤ largest) ⌝ }
+    requires { ⌜ ((k : ℕ) → at (now shares) k ≤ mostPool) ⌝ }
     ensures { λ _. ⌜ now (shares .exit) ≡ withUnits (now (remainders .entry)) left (now (shares .entry)) ⌝ }
 {
     let equal = left - count_at_least(remainders, least + 1);

@@ -1,7 +1,8 @@
 -- The laws of the calls for the crates above; those of close are proved in `book_shares` and handed on. Of each call that writes:
 -- what an accepted one changes, and that it keeps all else (`Fresh`; `CategoryAdded`, `EntryAdded`, `EntryStruck`, `ElementAdded` of
--- `Views`; `CategoryClosed` of `Closed`); that a refused one leaves the list as it was; that either leaves a sound book sound; of an
--- opening and a closing, that they leave the sums of ground 10 as they are.
+-- `RecordsAfterWrite` of `book_words`; `CategoryClosed` of `CloseWrites` of `book_shares`); that a refused one leaves the list as it
+-- was; that either leaves a sound book sound; of an opening and a closing, that they leave the sums of ground 10 as they are. Of a
+-- statement: what it answers for an unused chain.
 -- Assumes nothing.
 use mathlib.Core.Bool.{true, false, cond, not, _&&_}
 use mathlib.Core.List.{List}
@@ -15,9 +16,11 @@ use borrow.Author.Tests.{le-ltb, lt-ltb, ne-eqb, leb-false, not-false}
 use Rattle.apportion.specs.Places.{at, listBelow, oneIf}
 use Rattle.book_words.specs.Book.{mark, bookLength, categories, mostCategories, entries, mostEntries, elements, mostElements}
 use Rattle.book_words.specs.Book.{categoryOf, entryAt, elementAt, isClosed}
-use Rattle.book_words.specs.Measures.{between, isKind, isGroup, isChain, isCode, isAdjust, isAmount, isDistance}
+use Rattle.book_words.specs.Measures.{between, isKind, isGroup, isChain, isCode, isAdjust, isAmount, isDistanceIn}
 use Rattle.book_words.specs.Soundness.{sound, categoryFine, elementFine}
-use Rattle.book_words.specs.Totals.{allUnstruck, sharesOf, activities, operation, provision, Side, shareOf, sumsOf, withEntry, withElement, withinLimits}
+use Rattle.book_words.specs.declared.totals.Side.{Side}
+use Rattle.book_words.specs.declared.totals.Side.the-variants.{Operation as operation, Provision as provision}
+use Rattle.book_words.specs.Totals.{allUnstruck, sharesOf, activities, shareOf, sumsOf, withEntry, withElement, withinLimits}
 use Rattle.book_words.specs.declared.records.Element.{Element}
 use Rattle.book_shares.specs.Closing.{closeRefusal, closeBook}
 use Rattle.book_shares.specs.Shares.{closingShare}
@@ -25,24 +28,24 @@ use Rattle.book.specs.declared.arguments.EnrolArguments.{EnrolArguments}
 use Rattle.book.specs.declared.arguments.PostArguments.{PostArguments}
 use Rattle.book.specs.declared.arguments.QuoteArguments.{QuoteArguments}
 use Rattle.book.specs.Calls.{cleared, freshRefusal, freshBook, openRefusal, openBook, postRefusal, postBook, postedEntry}
-use Rattle.book.specs.Calls.{strikeRefusal, strikeBook, enrolRefusal, enrolBook, enrolledElement, quoteRefusal, quoteBook, quotedElement}
+use Rattle.book.specs.Calls.{quoteInRange, strikeRefusal, strikeBook, enrolRefusal, enrolBook, enrolledElement, quoteRefusal, quoteBook, quotedElement}
 use Rattle.book.specs.Statements.{ofChain, waits, elementsOn, waitingOn, sharesOn, zerosBeside, statementOf, statementRefusal, statementReply}
 use Rattle.apportion.proofs.Grounds.{or-none, refused-old, either}
 use Rattle.apportion.proofs.Sums.{sum-zero}
 use Rattle.apportion.proofs.Lists.{filled, filled-length, list-length, list-at}
 use Rattle.book_words.proofs.Booleans.{and-both, both, cond-same}
-use Rattle.book_words.proofs.Capping.{within-parts}
-use Rattle.book_words.proofs.Facts.{sound-counted}
+use Rattle.book_words.proofs.CappedSums.{within-parts}
+use Rattle.book_words.proofs.SoundTests.{sound-counted}
 use Rattle.book_words.proofs.Ranges.{between-low, between-high}
-use Rattle.book_words.proofs.Rules.{entry-numbered, entry-suits, element-numbered, element-suits, element-quoted, quoted-suits}
-use Rattle.book_words.proofs.Views.{CategoryAdded, category-added, EntryAdded, entry-added, EntryStruck, entry-struck, ElementAdded, element-added}
-use Rattle.book_words.proofs.Wholes.{Whole, whole-sound, sound-whole}
-use Rattle.book_words.proofs.Writes.{filled-past}
-use Rattle.book.proofs.Accepting.{struck, opened, posted, unclosed-zero, enrolled, quoted}
-use Rattle.book.proofs.Counting.{category-sums, closing-sums}
-use Rattle.book.proofs.Keeping.{open-keeps, post-keeps, strike-keeps, element-keeps}
-use Rattle.book.proofs.Quotes.{quote-measured}
-use Rattle.book_shares.proofs.Closable.{closable}
+use Rattle.book_words.proofs.RecordRules.{entry-numbered, entry-suits, element-numbered, element-suits, element-quoted, quoted-suits}
+use Rattle.book_words.proofs.RecordsAfterWrite.{CategoryAdded, category-added, EntryAdded, entry-added, EntryStruck, entry-struck, ElementAdded, element-added}
+use Rattle.book_words.proofs.SoundRecords.{SoundFacts, facts-sound, sound-facts}
+use Rattle.book_words.proofs.WordsAfterWrite.{filled-past}
+use Rattle.book.proofs.AcceptedCalls.{struck, opened, posted, unclosed-zero, enrolled, quoted}
+use Rattle.book.proofs.SumsAfterCall.{category-sums, closing-sums}
+use Rattle.book.proofs.CallsKeepSound.{open-keeps, post-keeps, strike-keeps, element-keeps}
+use Rattle.book.proofs.QuotedAmounts.{quote-measured}
+use Rattle.book_shares.proofs.CloseAccepted.{accepted-closing}
 pub use Rattle.book_shares.proofs.Laws.{close-refused, close-closed, shares-handed, share-near-exact, close-sound}
 
 module _ (ws : List ℕ) where
@@ -51,8 +54,8 @@ module _ (ws : List ℕ) where
   there e = sound-counted ws (not-false (sound ws) e) .long
 
   -- a call leaves a sound book sound where an accepted one does
-  sound-either : (n : ℕ) (new : List ℕ) → ((n ≡ 0 → ⊥) → new ≡ ws) → (n ≡ 0 → Whole ws → Whole new) → sound ws ≡ true → sound new ≡ true
-  sound-either n new same made fine = either (λ b. sound b ≡ true) n new ws same (λ e. whole-sound new (made e (sound-whole ws fine))) fine
+  sound-either : (n : ℕ) (new : List ℕ) → ((n ≡ 0 → ⊥) → new ≡ ws) → (n ≡ 0 → SoundFacts ws → SoundFacts new) → sound ws ≡ true → sound new ≡ true
+  sound-either n new same made fine = either (λ b. sound b ≡ true) n new ws same (λ e. facts-sound new (made e (sound-facts ws fine))) fine
 
   -- fresh
   pub record Fresh (ws′ : List ℕ) : Type 0 where
@@ -93,7 +96,7 @@ module _ (ws : List ℕ) where
       let new = freshBook ws in
       let made = fresh-made h in
       let none = fresh-empty h in
-      whole-sound new
+      facts-sound new
       (record {
         counts = omega (arith, made .same-length);
         marked = made .marked;
@@ -211,7 +214,7 @@ module _ (ws : List ℕ) where
         let numbered = not-false (between 1 (categories ws) (e .category)) (none 2) in
         let known = both (isChain (e .chain)) (isCode (e .code)) (not-false (isChain (e .chain) && isCode (e .code)) (none 3)) in
         let amount = isAmount (e .code) (e .amount) in
-        let distance = isDistance (category .kind) (e .distance) in
+        let distance = isDistanceIn (category .kind) (e .distance) in
         let measured = both amount distance (not-false (amount && distance) (none 7)) in
         let low = between-low 1 (categories ws) (e .category) numbered in
         sym (element-numbered ws enrolled-one (λ is. omega arith) (between-high 1 (categories ws) (e .category) numbered))
@@ -245,8 +248,8 @@ module _ (ws : List ℕ) where
     quoted-fine e =
         let none = quoted ws q e in
         let known = both (isChain (q .chain)) (isAdjust (q .adjust)) (not-false (isChain (q .chain) && isAdjust (q .adjust)) (none 3)) in
-        let measured = quote-measured q (none 7) in
-        sym (element-quoted ws (quotedElement q) refl) ∙ quoted-suits (quotedElement q) (known .0) (measured .0) (measured .1) refl refl
+        let measured = quote-measured q (not-false (quoteInRange q) (none 7)) in
+        sym (element-quoted ws (quotedElement q) refl) ∙ quoted-suits (quotedElement q) (known .0) (measured .mass) (measured .distance) refl refl
 
     pub quote-sound : sound ws ≡ true → sound (quoteBook ws q) ≡ true
     quote-sound =
@@ -261,7 +264,7 @@ module _ (ws : List ℕ) where
   close-sums category =
       either (λ b. sumsOf b ≡ sumsOf ws) (closeRefusal ws category) (closeBook ws category) ws (close-refused ws category)
       (λ e.
-      let ok = closable ws category e in
+      let ok = accepted-closing ws category e in
       closing-sums ws (closeBook ws category) category (closingShare ws category) (close-closed ws category e) (sound-counted ws (ok .fine))
       (between-low 1 (categories ws) category (ok .numbered)))
       refl

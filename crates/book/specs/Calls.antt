@@ -1,7 +1,8 @@
 -- "Calls" and their "Grounds, in checking order". Each call has one ordered list of its grounds; its reply and the book after
--- it go by the number of the first ground that holds. Close and intensity are `Closing` and `Intensities` of `book_shares`.
+-- it go by the number of the first ground that holds. Close and intensity are in `Closing` and `Intensities` of `book_shares`,
+-- statement in `Statements`.
 -- Assumes nothing.
-use mathlib.Core.Bool.{not, _&&_, _||_, cond}
+use mathlib.Core.Bool.{Bool, not, _&&_, _||_, cond}
 use mathlib.Core.List.{List, _++_, _∷_, []}
 use Prim.Native.Nat.{ℕ, _+_, _*_}
 use lib.Dec.{ltb, leb, eqb}
@@ -9,9 +10,11 @@ use lib.ListN.{drop, length, set}
 use Rattle.apportion.specs.Grounds.{accepted, Ground, firstOf}
 use Rattle.apportion.specs.Places.{listBelow}
 use Rattle.book_words.specs.Book.{bookLength, mark, mostCategories, categories, addCategory, categoryOf, mostEntries, entries, addEntry, entryOf, strikeEntry, mostElements, elements, addElement, unnumbered, hasClosed}
-use Rattle.book_words.specs.Measures.{isKind, isGroup, unsuitedGroup, unsuited, isQuantity, isFactor, activityOf, isChain, isCode, isAmount, isDistance, nearest, isAdjust, isIntensity}
+use Rattle.book_words.specs.Measures.{isKind, isGroup, unsuitedGroup, unsuited, isQuantity, isFactor, activityOf, isChain, isCode, isMass, isAmount, isDistance, isDistanceIn, nearest, isAdjust, isIntensity}
 use Rattle.book_words.specs.Soundness.{sound}
-use Rattle.book_words.specs.Totals.{Side, operation, provision, passesLimits, sumsOf, withEntry, withElement}
+use Rattle.book_words.specs.declared.totals.Side.{Side}
+use Rattle.book_words.specs.declared.totals.Side.the-variants.{Operation as operation, Provision as provision}
+use Rattle.book_words.specs.Totals.{passesLimits, sumsOf, withEntry, withElement}
 use Rattle.book_words.specs.declared.records.Category.{Category}
 use Rattle.book_words.specs.declared.records.Element.{Element}
 use Rattle.book_words.specs.declared.records.Entry.{Entry}
@@ -19,6 +22,11 @@ use Rattle.book.specs.declared.arguments.EnrolArguments.{EnrolArguments}
 use Rattle.book.specs.declared.arguments.PostArguments.{PostArguments}
 use Rattle.book.specs.declared.arguments.QuoteArguments.{QuoteArguments}
 use Rattle.book.specs.declared.replies.Reply.{Reply}
+
+-- a reply that is a refusal number alone, as a strike and a closing have it in a list of calls: "fresh, strike and close return
+-- nothing more"
+abbrev pub refusalAlone : ℕ → Reply
+refusalAlone refusal = record { refusal = refusal; number = 0 }
 
 -- "A refusal returns its number with zeros": the reply of a call that returns a record's number
 abbrev pub replyOf : ℕ → ℕ → Reply
@@ -116,7 +124,7 @@ enrolGroundsIn ws e here =
     ∷ (3, not (isChain (e .chain) && isCode (e .code)))
     ∷ (4, hasClosed here)
     ∷ (6, unsuited (here .kind) (e .code))
-    ∷ (7, not (isAmount (e .code) (e .amount) && isDistance (here .kind) (e .distance)))
+    ∷ (7, not (isAmount (e .code) (e .amount) && isDistanceIn (here .kind) (e .distance)))
     ∷ (8, leb mostElements (elements ws))
     ∷ (10, passesLimits (withElement (sumsOf ws) (enrolledElement here e)))
     ∷ []
@@ -180,18 +188,19 @@ quotedElement q =
       provision = quotedAmount provision q;
     }
 
--- a quote is measured as freight (code 0) outside a hub (kind 1)
+-- the measures of a quote are in range; ground 7 is that one is not
+abbrev pub quoteInRange : QuoteArguments → Bool
+quoteInRange q =
+    isMass (q .mass)
+    && isDistance (q .distance)
+    && isIntensity (q .«operation_intensity»)
+    && isIntensity (q .«provision_intensity»)
+
 abbrev pub quoteGrounds : List ℕ → QuoteArguments → List Ground
 quoteGrounds ws q =
     (1, not (sound ws))
     ∷ (3, not (isChain (q .chain) && isAdjust (q .adjust)))
-    ∷ (
-      7,
-      not (isAmount 0 (q .mass)
-          && isDistance 1 (q .distance)
-          && isIntensity (q .«operation_intensity»)
-          && isIntensity (q .«provision_intensity»)),
-    )
+    ∷ (7, not (quoteInRange q))
     ∷ (8, leb mostElements (elements ws))
     ∷ (10, passesLimits (withElement (sumsOf ws) (quotedElement q)))
     ∷ []

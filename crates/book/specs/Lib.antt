@@ -1,4 +1,4 @@
+-- What a reader has to believe. `Inner` serves the contracts of inner functions.
 pub mod Calls
-pub mod Quotes
-pub mod Appending
 pub mod Statements
+pub mod Inner

@@ -9,7 +9,9 @@ use Rattle.apportion.specs.Places.{sumBelow, countBelow}
 use Rattle.book_words.specs.Book.{elements, elementAt, isClosed}
 use Rattle.book_words.specs.Measures.{isChain}
 use Rattle.book_words.specs.Soundness.{sound}
-use Rattle.book_words.specs.Totals.{Side, operation, provision, shareOf}
+use Rattle.book_words.specs.declared.totals.Side.{Side}
+use Rattle.book_words.specs.declared.totals.Side.the-variants.{Operation as operation, Provision as provision}
+use Rattle.book_words.specs.Totals.{shareOf}
 use Rattle.book_words.specs.declared.records.Element.{Element}
 use Rattle.book.specs.declared.replies.Statement.{Statement}
 

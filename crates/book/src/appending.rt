@@ -9,7 +9,7 @@ ghost use Rattle.book_words.specs.Book.{bookLength, countOf, startOf, appended,
 ghost use Rattle.book_words.specs.Soundness.{sound};
 ghost use Rattle.book_words.specs.Totals.{sumsOf, withEntry, withElement};
 ghost use Rattle.book.specs.Calls.{replyOf};
-ghost use Rattle.book.specs.Appending.{tenOf};
+ghost use Rattle.book.specs.Inner.Appending.{tenOf};
 use crate::replies;
 use crate::replies::Counted;
 use crate::replies::Reply;
@@ -103,9 +103,9 @@ pub fn admit_entry(book: &mut [u64], sums: Sums, added: Entry) -> Counted
     ensures { λ _. ⌜ now (book .exit) ≡ accepted (tenOf (withEntry sums added)) (addEntry (now (book .entry)) added) (now (book .entry)) ⌝ }
     ensures { λ r. ⌜ r .sums ≡ sumsOf (now (book .exit)) ⌝ }
 {
-    let after = book_words::with_entry(sums, added);
+    let after = book_words::capped_with_entry(sums, added);
     if !book_words::are_within(after) {
-        return replies::turned_away(10, sums);
+        return replies::refused_with(10, sums);
     }
     Counted {
         reply: add_entry(book, added),
@@ -122,9 +122,9 @@ pub fn admit_element(book: &mut [u64], sums: Sums, added: Element) -> Counted
     ensures { λ _. ⌜ now (book .exit) ≡ accepted (tenOf (withElement sums added)) (addElement (now (book .entry)) added) (now (book .entry)) ⌝ }
     ensures { λ r. ⌜ r .sums ≡ sumsOf (now (book .exit)) ⌝ }
 {
-    let after = book_words::with_element(sums, added);
+    let after = book_words::capped_with_element(sums, added);
     if !book_words::are_within(after) {
-        return replies::turned_away(10, sums);
+        return replies::refused_with(10, sums);
     }
     Counted {
         reply: add_element(book, added),

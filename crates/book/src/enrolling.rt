@@ -1,8 +1,9 @@
 // Enrol: appends an element of a category.
 ghost use mathlib.Core.Bool.{true};
 ghost use mathlib.Core.Path.{_≡_};
-ghost use Rattle.apportion.specs.Grounds.{firstOf, groundsBefore};
-ghost use Rattle.book_words.specs.Measures.{isCode, isAmount, isDistance};
+ghost use Rattle.apportion.specs.Grounds.{firstOf};
+ghost use Rattle.apportion.specs.Inner.Grounds.{groundsBefore};
+ghost use Rattle.book_words.specs.Measures.{isCode, isAmount, isDistanceIn};
 ghost use Rattle.book_words.specs.Soundness.{sound};
 ghost use Rattle.book_words.specs.Totals.{sumsOf};
 ghost use Rattle.book.specs.Calls.{enrolReply, enrolBook, enrolGrounds, enrolledElement};
@@ -22,7 +23,7 @@ pub fn enrol(book: &mut [u64], e: EnrolArguments) -> Reply
     ensures { λ _. ⌜ now (book .exit) ≡ enrolBook (now (book .entry)) e ⌝ }
 {
     if !book_words::is_sound(book) {
-        return replies::refused(1);
+        return replies::refusal_alone(1);
     }
     let sums = book_words::sums_of(book);
     let counted = enrol_sound(book, sums, e);
@@ -39,9 +40,9 @@ pub fn enrol_sound(book: &mut [u64], sums: Sums, e: EnrolArguments) -> Counted
 {
     let refusal = refusal_number(book, e);
     if refusal != 0 {
-        return replies::turned_away(refusal, sums);
+        return replies::refused_with(refusal, sums);
     }
-    let category = book_words::category_of(book, e.category);
+    let category = book_words::numbered_category(book, e.category);
     appending::admit_element(book, sums, enrolled(category, e))
 }
 
@@ -52,13 +53,13 @@ fn refusal_number(book: &[u64], e: EnrolArguments) -> u64
 {
     let categories = book[book_words::CATEGORIES];
     let elements = book[book_words::ELEMENTS];
-    let category = book_words::category_of(book, e.category);
+    let category = book_words::numbered_category(book, e.category);
     let unnumbered = !((1 <= e.category) & (e.category <= categories));
     let unknown = !(book_words::is_chain(e.chain) & book_words::is_code(e.code));
     let closed = category.closed != 0;
     let unsuited = book_words::unsuited(category.kind, e.code);
     let out_of_range = !(book_words::is_amount(e.code, e.amount)
-        & book_words::is_distance(category.kind, e.distance));
+        & book_words::is_distance_in(category.kind, e.distance));
     let full = book_words::MOST_ELEMENTS <= elements;
     first_of(
         &[2, 3, 4, 6, 7, 8],
@@ -70,7 +71,7 @@ fn refusal_number(book: &[u64], e: EnrolArguments) -> u64
 fn enrolled(category: Category, e: EnrolArguments) -> Element
     requires { ⌜ isCode (e .code) ≡ true ⌝ }
     requires { ⌜ isAmount (e .code) (e .amount) ≡ true ⌝ }
-    requires { ⌜ isDistance (category .kind) (e .distance) ≡ true ⌝ }
+    requires { ⌜ isDistanceIn (category .kind) (e .distance) ≡ true ⌝ }
     ensures { λ r. ⌜ r ≡ enrolledElement category e ⌝ }
 {
     Element {

@@ -15,7 +15,7 @@ pub fn open(book: &mut [u64], kind: u64) -> Reply
     ensures { λ _. ⌜ now (book .exit) ≡ openBook (now (book .entry)) kind ⌝ }
 {
     if !book_words::is_sound(book) {
-        return replies::refused(1);
+        return replies::refusal_alone(1);
     }
     open_sound(book, kind)
 }
@@ -28,7 +28,7 @@ pub fn open_sound(book: &mut [u64], kind: u64) -> Reply
 {
     let refusal = refusal_number(book, kind);
     if refusal != 0 {
-        return replies::refused(refusal);
+        return replies::refusal_alone(refusal);
     }
     appending::add_category(book, Category { kind, closed: 0 })
 }

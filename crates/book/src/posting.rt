@@ -1,10 +1,11 @@
 // Post: appends an entry.
 ghost use mathlib.Core.Bool.{true};
 ghost use mathlib.Core.Path.{_≡_};
-ghost use Rattle.apportion.specs.Grounds.{firstOf, groundsBefore};
+ghost use Rattle.apportion.specs.Grounds.{firstOf};
+ghost use Rattle.apportion.specs.Inner.Grounds.{groundsBefore};
 ghost use Rattle.book_words.specs.Soundness.{sound};
 ghost use Rattle.book_words.specs.Totals.{sumsOf};
-ghost use Rattle.book.specs.Appending.{capAmounts};
+ghost use Rattle.book.specs.Inner.Appending.{capAmounts};
 ghost use Rattle.book.specs.Calls.{postReply, postBook, postGrounds, postedEntry};
 use crate::appending;
 use crate::arguments::PostArguments;
@@ -27,7 +28,7 @@ pub fn post(book: &mut [u64], p: PostArguments) -> Reply
     ensures { λ _. ⌜ now (book .exit) ≡ postBook (now (book .entry)) p ⌝ }
 {
     if !book_words::is_sound(book) {
-        return replies::refused(1);
+        return replies::refusal_alone(1);
     }
     let sums = book_words::sums_of(book);
     let counted = post_sound(book, sums, p);
@@ -44,7 +45,7 @@ pub fn post_sound(book: &mut [u64], sums: Sums, p: PostArguments) -> Counted
 {
     let refusal = refusal_number(book, p);
     if refusal != 0 {
-        return replies::turned_away(refusal, sums);
+        return replies::refused_with(refusal, sums);
     }
     appending::admit_entry(book, sums, posted(p))
 }
@@ -56,7 +57,7 @@ fn refusal_number(book: &[u64], p: PostArguments) -> u64
 {
     let categories = book[book_words::CATEGORIES];
     let entries = book[book_words::ENTRIES];
-    let category = book_words::category_of(book, p.category);
+    let category = book_words::numbered_category(book, p.category);
     let unnumbered = !((1 <= p.category) & (p.category <= categories));
     let unknown = !(p.group <= 2);
     let closed = category.closed != 0;

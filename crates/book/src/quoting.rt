@@ -1,14 +1,15 @@
 // Quote: appends an element of category 0 with its own shares.
 ghost use mathlib.Core.Bool.{true};
 ghost use mathlib.Core.Path.{_≡_};
-ghost use Prim.Native.Nat.{_≤_, _*_};
-ghost use Rattle.apportion.specs.Grounds.{firstOf, groundsBefore};
-ghost use Rattle.book_words.specs.Measures.{nearest};
+ghost use Prim.Native.Nat.{_*_};
+ghost use Rattle.apportion.specs.Grounds.{firstOf};
+ghost use Rattle.apportion.specs.Inner.Grounds.{groundsBefore};
+ghost use Rattle.book_words.specs.Measures.{isDistance, isIntensity, nearest};
 ghost use Rattle.book_words.specs.Soundness.{sound};
-ghost use Rattle.book_words.specs.Totals.{capped, sumsOf};
-ghost use Rattle.book.specs.Appending.{capShares};
-ghost use Rattle.book.specs.Calls.{quoteReply, quoteBook, quoteGrounds, quotedElement, adjusted as adjustedBy};
-ghost use Rattle.book.specs.Quotes.{Quotable};
+ghost use Rattle.book_words.specs.Totals.{sumsOf};
+ghost use Rattle.book_words.specs.Inner.Steps.{capped};
+ghost use Rattle.book.specs.Inner.Appending.{capShares};
+ghost use Rattle.book.specs.Calls.{quoteReply, quoteBook, quoteInRange, quoteGrounds, quotedElement, adjusted};
 use crate::appending;
 use crate::arguments::QuoteArguments;
 use crate::replies;
@@ -30,7 +31,7 @@ pub fn quote(book: &mut [u64], q: QuoteArguments) -> Reply
     ensures { λ _. ⌜ now (book .exit) ≡ quoteBook (now (book .entry)) q ⌝ }
 {
     if !book_words::is_sound(book) {
-        return replies::refused(1);
+        return replies::refusal_alone(1);
     }
     let sums = book_words::sums_of(book);
     let counted = quote_sound(book, sums, q);
@@ -47,7 +48,7 @@ pub fn quote_sound(book: &mut [u64], sums: Sums, q: QuoteArguments) -> Counted
 {
     let refusal = refusal_number(book, q);
     if refusal != 0 {
-        return replies::turned_away(refusal, sums);
+        return replies::refused_with(refusal, sums);
     }
     appending::admit_element(book, sums, quoted(q))
 }
@@ -59,8 +60,8 @@ fn refusal_number(book: &[u64], q: QuoteArguments) -> u64
 {
     let elements = book[book_words::ELEMENTS];
     let unknown = !(book_words::is_chain(q.chain) & (q.adjust <= 1));
-    let out_of_range = !(book_words::is_amount(0, q.mass)
-        & book_words::is_distance(1, q.distance)
+    let out_of_range = !(book_words::is_mass(q.mass)
+        & book_words::is_distance(q.distance)
         & (q.operation_intensity <= MOST_INTENSITY)
         & (q.provision_intensity <= MOST_INTENSITY));
     let full = book_words::MOST_ELEMENTS <= elements;
@@ -69,7 +70,7 @@ fn refusal_number(book: &[u64], q: QuoteArguments) -> u64
 
 // The element that a quote appends, its shares capped.
 fn quoted(q: QuoteArguments) -> Element
-    requires { ⌜ Quotable q ⌝ }
+    requires { ⌜ quoteInRange q ≡ true ⌝ }
     ensures { λ r. ⌜ r ≡ capShares (quotedElement q) ⌝ }
 {
     let mass = q.mass;
@@ -91,7 +92,7 @@ fn quoted(q: QuoteArguments) -> Element
 // Intensity × product / 1000, nearest, halves up, capped; the product is mass × D. With the intensity it passes 64
 // bits, so its thousands are multiplied apart from what is left of it.
 fn nearest_thousandth(intensity: u64, product: u64) -> u64
-    requires { ⌜ intensity ≤ 1_000_000_000 ⌝ }
+    requires { ⌜ isIntensity intensity ≡ true ⌝ }
     ensures { λ r. ⌜ r ≡ capped (nearest (intensity * product) 1000) ⌝ }
 {
     let whole = book_words::multiply(intensity, product / 1000);
@@ -101,8 +102,8 @@ fn nearest_thousandth(intensity: u64, product: u64) -> u64
 
 // D: the distance, with adjust 1 plus the air default.
 fn adjusted(q: QuoteArguments) -> u64
-    requires { ⌜ q .distance ≤ 40_000_000 ⌝ }
-    ensures { λ r. ⌜ r ≡ adjustedBy q ⌝ }
+    requires { ⌜ isDistance (q .distance) ≡ true ⌝ }
+    ensures { λ r. ⌜ r ≡ adjusted q ⌝ }
 {
     if q.adjust == 1 {
         return q.distance + AIR_DISTANCE;

@@ -1,5 +1,6 @@
 // What calls answer.
 ghost use mathlib.Core.Path.{_≡_};
+ghost use Rattle.book.specs.Calls.{refusalAlone};
 ghost use Rattle.book.specs.Statements.{zerosBeside};
 use book_words::Sums;
 
@@ -11,9 +12,9 @@ pub struct Reply {
     pub number: u64,
 }
 
-// A refusal returns its number with zeros.
-pub fn refused(refusal: u64) -> Reply
-    ensures { λ r. ⌜ r ≡ record { refusal = refusal; number = 0 } ⌝ }
+// A refusal number with zeros: the reply of a refused call, and of a call that returns nothing more.
+pub fn refusal_alone(refusal: u64) -> Reply
+    ensures { λ r. ⌜ r ≡ refusalAlone refusal ⌝ }
 {
     Reply { refusal, number: 0 }
 }
@@ -25,11 +26,11 @@ pub struct Counted {
 }
 
 // A refused call leaves the sums as they are.
-pub fn turned_away(refusal: u64, sums: Sums) -> Counted
-    ensures { λ r. ⌜ r ≡ record { reply = record { refusal = refusal; number = 0 }; sums = sums } ⌝ }
+pub fn refused_with(refusal: u64, sums: Sums) -> Counted
+    ensures { λ r. ⌜ r ≡ record { reply = refusalAlone refusal; sums = sums } ⌝ }
 {
     Counted {
-        reply: refused(refusal),
+        reply: refusal_alone(refusal),
         sums,
     }
 }
@@ -48,7 +49,7 @@ pub struct Statement {
 }
 
 // A refused statement: its number with zeros.
-pub fn no_statement(refusal: u64) -> Statement
+pub fn zeros_beside(refusal: u64) -> Statement
     ensures { λ r. ⌜ r ≡ zerosBeside refusal ⌝ }
 {
     Statement {

@@ -15,7 +15,7 @@ pub fn statement(book: &[u64], chain: u64) -> Statement
     ensures { λ r. ⌜ r ≡ statementReply (now (book .entry)) chain ⌝ }
 {
     if !book_words::is_sound(book) {
-        return replies::no_statement(1);
+        return replies::zeros_beside(1);
     }
     statement_sound(book, chain)
 }
@@ -26,7 +26,7 @@ pub fn statement_sound(book: &[u64], chain: u64) -> Statement
     ensures { λ r. ⌜ r ≡ statementReply (now (book .entry)) chain ⌝ }
 {
     if !book_words::is_chain(chain) {
-        return replies::no_statement(3);
+        return replies::zeros_beside(3);
     }
     walk(book, chain)
 }
@@ -44,7 +44,7 @@ fn walk(book: &[u64], chain: u64) -> Statement
     let mut passed = 0;
     while passed < count {
         passed += 1;
-        let e = book_words::element_of(book, passed);
+        let e = book_words::numbered_element(book, passed);
         if e.chain != chain {
             continue;
         }
@@ -69,7 +69,7 @@ fn waiting_of(book: &[u64], e: Element) -> u64
     requires { ⌜ e .category ≤ categories (now book) ⌝ }
     ensures { λ r. ⌜ r ≡ oneIf (waits (now (book .entry)) e) ⌝ }
 {
-    let r = book_words::category_of(book, e.category);
+    let r = book_words::numbered_category(book, e.category);
     if (e.category != 0) & (r.closed == 0) {
         return 1;
     }

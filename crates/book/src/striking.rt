@@ -22,7 +22,7 @@ pub fn strike(book: &mut [u64], entry: u64) -> u64
 }
 
 // The same on a book that is known to be sound.
-pub fn strike_sound(book: &mut [u64], entry: u64) -> u64
+fn strike_sound(book: &mut [u64], entry: u64) -> u64
     requires { ⌜ sound (now book) ≡ true ⌝ }
     ensures { λ r. ⌜ r ≡ strikeRefusal (now (book .entry)) entry ⌝ }
     ensures { λ _. ⌜ now (book .exit) ≡ strikeBook (now (book .entry)) entry ⌝ }
@@ -49,8 +49,8 @@ fn refusal_number(book: &[u64], entry: u64) -> u64
     ensures { λ r. ⌜ r ≡ strikeRefusal (now (book .entry)) entry ⌝ }
 {
     let entries = book[book_words::ENTRIES];
-    let e = book_words::entry_of(book, entry);
-    let category = book_words::category_of(book, e.category);
+    let e = book_words::numbered_entry(book, entry);
+    let category = book_words::numbered_category(book, e.category);
     let unnumbered = !((1 <= entry) & (entry <= entries));
     let closed = (category.closed != 0) | (e.struck != 0);
     first_of(&[2, 4], &[unnumbered, closed])

@@ -23,7 +23,7 @@ use Rattle.book_file.specs.Answers.{numbersOf, answerAt}
 use Rattle.book_file.specs.Conserving.{callsOf, passedOf, passedIn, callsAccepted, firstAnswer, LoadConservation}
 use Rattle.book_file.specs.File.{headerRefusal}
 use Rattle.book_file.specs.Loading.{Task, taskRefusal, Loading, loadingOf, made, carriedOn, tasksOf, loadOf, loadAnswer, loadNumbers, loadBook}
-use Rattle.book_file.proofs.Carrying.{stop-refusal, made-done, made-stopped, carried-stopped, carried-sound}
+use Rattle.book_file.proofs.TaskLoop.{stop-refusal, made-done, made-stopped, carried-stopped, carried-sound}
 use Rattle.book_file.proofs.Headers.{header-long}
 pub use Rattle.book_file.proofs.Headers.{record-inside}
 

@@ -1,4 +1,4 @@
--- A load is a list of calls, so that demand 3 holds of every book that a load leaves. Assumes nothing.
+-- A load that its header does not stop is a list of calls, so that demand 3 holds of the book that it leaves. Assumes nothing.
 use mathlib.Core.List.{List, [], _∷_, map}
 use mathlib.Core.Path.{_≡_}
 use Prim.Native.Nat.{ℕ, suc}

@@ -2,7 +2,7 @@
 -- Assumes nothing.
 use mathlib.Core.Bool.{Bool, not, _||_}
 use mathlib.Core.List.{List, [], _∷_}
-use Prim.Native.Nat.{ℕ, _+_, _*_, _<_, _≤_, _^_}
+use Prim.Native.Nat.{ℕ, _+_, _*_}
 use lib.Dec.{ltb, eqb}
 use lib.ListN.{length}
 use Rattle.apportion.specs.Grounds.{Ground, firstOf}
@@ -41,12 +41,6 @@ recordAt section place = section .start + place * section .size
 
 abbrev pub sectionEnd : Section → ℕ
 sectionEnd section = recordAt section (section .count)
-
--- the numbers of a section of a header, so that sums of them stay below 2^64
-pub record Within32 (section : Section) : Type 0 where
-  pub count-within : section .count < 2 ^ 32
-  pub start-within : section .start < 2 ^ 32
-  pub size-within : section .size ≤ 48
 
 -- "11. A file is under 32 or over 16,384 bytes, or its first or last header number is wrong."
 abbrev pub mostBytes : ℕ

@@ -131,13 +131,6 @@ made ws task =
     (answerAt (taskRefusal ws task) (task .place))
     (accepted (taskRefusal ws task) (step ws (task .call) .book) ws)
 
--- the closing of a category, where it is flagged, and the task of any place, where it is asked for
-abbrev pub madeClosing : List ℕ → ℕ → CategoryRecord → Loading
-madeClosing ws number r = cond (isFlagged r) (made ws (closing number)) (loadingOf Loaded ws)
-
-abbrev pub madeAt : List ℕ → List ℕ → Table → ℕ → Loading
-madeAt ws file table place = cond (isAsked file table place) (made ws (taskAt file table place)) (loadingOf Loaded ws)
-
 -- a load goes on with a task unless it is stopped, and so with each of a list
 abbrev pub unlessStopped : Load → Loading → Loading → Loading
 unlessStopped Loaded new old = new

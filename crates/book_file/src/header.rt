@@ -1,7 +1,8 @@
 // The header: eight u32, namely 14083, categories, their offset, entries, offset, elements, offset, file length.
 ghost use mathlib.Core.Path.{_≡_};
 ghost use Prim.Native.Nat.{_≤_, _<_, _^_};
-ghost use Rattle.book_file.specs.File.{headerNumber, sectionIn, categoriesIn, entriesIn, elementsIn, recordAt, sectionEnd, Within32, wrongHeader, misplaced, wrongSections, headerRefusal};
+ghost use Rattle.book_file.specs.Inner.Steps.{Within32};
+ghost use Rattle.book_file.specs.File.{headerNumber, sectionIn, categoriesIn, entriesIn, elementsIn, recordAt, sectionEnd, wrongHeader, misplaced, wrongSections, headerRefusal};
 use crate::numbers;
 use apportion::first_of;
 
@@ -43,9 +44,9 @@ fn are_misplaced(file: &[u8]) -> bool
     ensures { λ r. ⌜ r ≡ wrongSections (now (file .entry)) ⌝ }
 {
     let length = file.len();
-    let categories = categories(file);
-    let entries = entries(file);
-    let elements = elements(file);
+    let categories = categories_in(file);
+    let entries = entries_in(file);
+    let elements = elements_in(file);
     is_misplaced(LENGTH, categories, length)
         | is_misplaced(end(categories), entries, length)
         | is_misplaced(end(entries), elements, length)
@@ -77,21 +78,21 @@ pub fn record_at(section: Section, place: usize) -> usize
     section.start + place * section.size
 }
 
-pub fn categories(file: &[u8]) -> Section
+pub fn categories_in(file: &[u8]) -> Section
     ensures { λ r. ⌜ r ≡ categoriesIn (now (file .entry)) ⌝ }
     ensures { λ r. ⌜ Within32 r ⌝ }
 {
     section_in(file, 1, 8)
 }
 
-pub fn entries(file: &[u8]) -> Section
+pub fn entries_in(file: &[u8]) -> Section
     ensures { λ r. ⌜ r ≡ entriesIn (now (file .entry)) ⌝ }
     ensures { λ r. ⌜ Within32 r ⌝ }
 {
     section_in(file, 3, 32)
 }
 
-pub fn elements(file: &[u8]) -> Section
+pub fn elements_in(file: &[u8]) -> Section
     ensures { λ r. ⌜ r ≡ elementsIn (now (file .entry)) ⌝ }
     ensures { λ r. ⌜ Within32 r ⌝ }
 {

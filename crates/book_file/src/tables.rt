@@ -5,8 +5,8 @@ ghost use Prim.Native.Nat.{_+_, _<_};
 ghost use Rattle.book_words.specs.Soundness.{sound};
 ghost use Rattle.book_words.specs.Totals.{sumsOf};
 ghost use Rattle.book_file.specs.Answers.{answerAt};
-ghost use Rattle.book_file.specs.File.{Within32};
-ghost use Rattle.book_file.specs.Loading.{sectionOf, loadingOf, opening, posting, quoting, enrolling, enrollingOrQuoting, made, madeClosing, madeAt, tasksIn, carriedOn};
+ghost use Rattle.book_file.specs.Inner.Steps.{Within32, madeIf};
+ghost use Rattle.book_file.specs.Loading.{sectionOf, loadingOf, opening, posting, quoting, enrolling, enrollingOrQuoting, made, tasksIn, carriedOn, closing, isFlagged, isAsked, taskAt};
 use crate::answers;
 use crate::answers::Load;
 use crate::answers::Place;
@@ -80,7 +80,7 @@ fn load_record(
     requires { ⌜ Within32 section ⌝ }
     requires { ⌜ place < section .count ⌝ }
     ensures { λ r. ⌜ loadingOf (r .answer) (now (book .exit))
-        ≡ madeAt (now (book .entry)) (now (file .entry)) table place ⌝ }
+        ≡ madeIf (isAsked (now (file .entry)) table place) (now (book .entry)) (taskAt (now (file .entry)) table place) ⌝ }
     ensures { λ r. ⌜ r .sums ≡ sumsOf (now (book .exit)) ⌝ }
 {
     let at = header::record_at(section, place);
@@ -200,7 +200,7 @@ fn counted_at(counted: Counted, place: Place) -> Reached
 // Closes a category that is flagged.
 fn close(book: &mut [u64], number: u64, category: CategoryRecord) -> Load
     requires { ⌜ sound (now book) ≡ true ⌝ }
-    ensures { λ r. ⌜ loadingOf r (now (book .exit)) ≡ madeClosing (now (book .entry)) number category ⌝ }
+    ensures { λ r. ⌜ loadingOf r (now (book .exit)) ≡ madeIf (isFlagged category) (now (book .entry)) (closing number) ⌝ }
 {
     if category.flag != 1 {
         return Load::Loaded;
@@ -215,9 +215,9 @@ fn section_of(file: &[u8], table: Table) -> Section
     ensures { λ r. ⌜ Within32 r ⌝ }
 {
     match table {
-        Table::Categories => header::categories(file),
-        Table::Entries => header::entries(file),
-        Table::Elements => header::elements(file),
-        Table::Closings => header::categories(file),
+        Table::Categories => header::categories_in(file),
+        Table::Entries => header::entries_in(file),
+        Table::Elements => header::elements_in(file),
+        Table::Closings => header::categories_in(file),
     }
 }

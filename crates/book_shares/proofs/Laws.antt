@@ -10,23 +10,25 @@ use Rattle.apportion.specs.Nearness.{Within}
 use Rattle.apportion.specs.Places.{sumBelow}
 use Rattle.book_words.specs.Book.{categories, elements, elementAt}
 use Rattle.book_words.specs.Soundness.{sound}
-use Rattle.book_words.specs.Totals.{Side, unstruckOf, sharesOf, shareOf, operation, provision}
+use Rattle.book_words.specs.declared.totals.Side.{Side}
+use Rattle.book_words.specs.declared.totals.Side.the-variants.{Operation as operation, Provision as provision}
+use Rattle.book_words.specs.Totals.{unstruckOf, sharesOf, shareOf}
 use Rattle.book_words.specs.declared.records.Element.{Element}
 use Rattle.book_shares.specs.Closing.{closeRefusal, closeBook}
 use Rattle.book_shares.specs.Shares.{closingShare, exactOf}
 use Rattle.apportion.proofs.Grounds.{refused-old, either}
 use Rattle.apportion.proofs.Sums.{sum-cong}
-use Rattle.book_words.proofs.Facts.{sound-counted}
-use Rattle.book_words.proofs.Kept.{same-or-not}
+use Rattle.book_words.proofs.SoundTests.{sound-counted}
+use Rattle.book_words.proofs.SameRecords.{same-or-not}
 use Rattle.book_words.proofs.Ranges.{between-low, between-high}
-use Rattle.book_words.proofs.Wholes.{whole-sound, sound-whole}
-use Rattle.book_shares.proofs.Bounds.{pools-add, at-place}
-use Rattle.book_shares.proofs.Closable.{Closable, closable, handed}
-use Rattle.book_shares.proofs.Closed.{CategoryClosed, category-closed}
-use Rattle.book_shares.proofs.Keeps.{shares-written, close-keeps}
-use Rattle.book_shares.proofs.Members.{active}
-use Rattle.book_shares.proofs.Shared.{Handed, share-elsewhere, shares-add, share-within}
-pub use Rattle.book_shares.proofs.Shared.{alone}
+use Rattle.book_words.proofs.SoundRecords.{facts-sound, sound-facts}
+use Rattle.book_shares.proofs.SumBounds.{pools-add, at-place}
+use Rattle.book_shares.proofs.CloseAccepted.{AcceptedClosing, accepted-closing, divisions}
+use Rattle.book_shares.proofs.CloseWrites.{CategoryClosed, category-closed}
+use Rattle.book_shares.proofs.CloseKeepsSound.{shares-written, close-keeps}
+use Rattle.book_shares.proofs.ElementFacts.{active}
+use Rattle.book_shares.proofs.ClosingShares.{Divisions, share-elsewhere, shares-add, share-within}
+pub use Rattle.book_shares.proofs.ClosingShares.{alone}
 
 module _ (ws : List ℕ) (category : ℕ) where
   -- A refused closing leaves the words as they are.
@@ -34,7 +36,7 @@ module _ (ws : List ℕ) (category : ℕ) where
   unfolding closeBook
   close-refused ne = refused-old (closeRefusal ws category) _ ws ne
 
-  numbers : Closable ws category → (1 ≤ category) × (category ≤ categories ws)
+  numbers : AcceptedClosing ws category → (1 ≤ category) × (category ≤ categories ws)
   numbers k = (between-low 1 (categories ws) category (k .numbered), between-high 1 (categories ws) category (k .numbered))
 
   -- An accepted one sets the category's closed word and the two shares of each of its elements. All else is as it was: the
@@ -42,12 +44,12 @@ module _ (ws : List ℕ) (category : ℕ) where
   pub close-closed : closeRefusal ws category ≡ 0 → CategoryClosed ws (closeBook ws category) category (closingShare ws category)
   unfolding closeBook
   close-closed e =
-      let k = closable ws category e in
+      let k = accepted-closing ws category e in
       rw e (category-closed ws (sound-counted ws (k .fine)) category (numbers k .0) (numbers k .1) (closingShare ws category))
 
   module _ (e : closeRefusal ws category ≡ 0) (side : Side) where
-    abbrev hands : Handed ws category side
-    hands = handed ws category side (closable ws category e)
+    abbrev hands : Divisions ws category side
+    hands = divisions ws category side (accepted-closing ws category e)
 
     -- what is written is all that there is to hand out
     balance : sumBelow (elements ws) (λ p. cond (eqb (elementAt ws p .category) category) (closingShare ws category side p) 0) ≡ unstruckOf ws category side
@@ -55,7 +57,7 @@ module _ (ws : List ℕ) (category : ℕ) where
         sum-cong (elements ws) (λ p. cond (eqb (elementAt ws p .category) category) (closingShare ws category side p) 0) (closingShare ws category side)
         (λ p h. members (elementAt ws p .category) (closingShare ws category side p) (λ other. share-elsewhere ws category side hands p other))
         ∙ shares-add ws category side hands
-        ∙ pools-add ws (closable ws category e .fine) category side
+        ∙ pools-add ws (accepted-closing ws category e .fine) category side
       where
         members : (c n : ℕ) → ((c ≡ category → ⊥) → n ≡ 0) → cond (eqb c category) n 0 ≡ n
         members c n none =
@@ -74,7 +76,7 @@ module _ (ws : List ℕ) (category : ℕ) where
         (exactOf ws category side (elementAt ws p) .numerator)
         (exactOf ws category side (elementAt ws p) .denominator)
     share-near-exact p h is =
-        let m = at-place ws (closable ws category e .fine) p h in
+        let m = at-place ws (accepted-closing ws category e .fine) p h in
         rw (written side)
         (share-within ws category side hands p h is (m .known) (active (elementAt ws p) m))
       where
@@ -87,7 +89,7 @@ module _ (ws : List ℕ) (category : ℕ) where
   close-sound fine =
       either (λ x. sound x ≡ true) (closeRefusal ws category) (closeBook ws category) ws close-refused
       (λ e.
-      let k = numbers (closable ws category e) in
-      whole-sound (closeBook ws category)
-      (close-keeps ws (closeBook ws category) category (closingShare ws category) (sound-whole ws fine) (close-closed e) (k .0) (k .1) (balance e)))
+      let k = numbers (accepted-closing ws category e) in
+      facts-sound (closeBook ws category)
+      (close-keeps ws (closeBook ws category) category (closingShare ws category) (sound-facts ws fine) (close-closed e) (k .0) (k .1) (balance e)))
       fine

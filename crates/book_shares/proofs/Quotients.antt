@@ -6,9 +6,9 @@ use native.Mathlib.Nat.{mul-add-div-right, div-eq-of-lt, add-zero, div-add-mod',
 use native.Mathlib.Numerals.{sub-one}
 use native.Mathlib.Omega.{arith}
 use Rattle.book_words.specs.Measures.{nearest}
-use Rattle.book_words.specs.Totals.{capped}
+use Rattle.book_words.specs.Inner.Steps.{capped}
 use Rattle.apportion.proofs.Sums.{below-or-not}
-use Rattle.book_words.proofs.Capping.{capped-times, capped-add}
+use Rattle.book_words.proofs.CappedSums.{capped-times, capped-add}
 
 -- a number by its quotient and its remainder
 div-of : (q r t : ℕ) → r < t → (q * t + r) / t ≡ q

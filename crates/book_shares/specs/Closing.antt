@@ -6,21 +6,22 @@ use lib.Dec.{ltb, eqb}
 use Rattle.apportion.specs.Grounds.{Ground, firstOf, accepted}
 use Rattle.book_words.specs.Book.{unnumbered, categories, categoryOf, hasClosed, elementAt, elements, putShares, closeCategory}
 use Rattle.book_words.specs.Soundness.{sound}
-use Rattle.book_words.specs.Totals.{operation, provision, Side}
+use Rattle.book_words.specs.declared.totals.Side.{Side}
+use Rattle.book_words.specs.declared.totals.Side.the-variants.{Operation as operation, Provision as provision}
 use Rattle.book_words.specs.declared.records.Category.{Category}
-use Rattle.book_shares.specs.declared.weights.Takers.the-variants.{Group, Freight}
+use Rattle.book_shares.specs.declared.weights.Recipients.the-variants.{Group, Freight}
 use Rattle.book_shares.specs.Shares.{closingShare}
 use Rattle.book_shares.specs.Sums.{pool, activityAmong, passengersByMass}
+
+-- ground 9: "F+P is 0"
+abbrev pub nothingToDivideBy : List ℕ → ℕ → Bool
+nothingToDivideBy ws category = eqb (activityAmong ws category Freight + passengersByMass ws category) 0
 
 -- ground 9: "a B, operation or provision, is above 0 and its S is 0"
 abbrev pub poolWithoutElements : List ℕ → ℕ → ℕ → Bool
 poolWithoutElements ws category group =
     (ltb 0 (pool ws category group operation) || ltb 0 (pool ws category group provision))
     && eqb (activityAmong ws category (Group group)) 0
-
--- ground 9: "F+P is 0"
-abbrev pub nothingToDivideBy : List ℕ → ℕ → Bool
-nothingToDivideBy ws category = eqb (activityAmong ws category Freight + passengersByMass ws category) 0
 
 -- `here` is the record of the category
 abbrev pub closeGroundsIn : List ℕ → ℕ → Category → List Ground

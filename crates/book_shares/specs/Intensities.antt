@@ -7,10 +7,12 @@ use Rattle.apportion.specs.Grounds.{Ground, firstOf, accepted}
 use Rattle.book_words.specs.Book.{categoryOf, unnumbered, categories, hasClosed}
 use Rattle.book_words.specs.Measures.{isFreight, isHub, nearest}
 use Rattle.book_words.specs.Soundness.{sound}
-use Rattle.book_words.specs.Totals.{Side, operation, provision}
+use Rattle.book_words.specs.declared.totals.Side.{Side}
+use Rattle.book_words.specs.declared.totals.Side.the-variants.{Operation as operation, Provision as provision}
 use Rattle.book_words.specs.declared.records.Category.{Category}
 use Rattle.book_shares.specs.declared.intensities.Intensity.{Intensity}
-use Rattle.book_shares.specs.declared.weights.Takers.the-variants.{Group, Freight, Passengers}
+use Rattle.book_shares.specs.declared.weights.Recipients.{Recipients}
+use Rattle.book_shares.specs.declared.weights.Recipients.the-variants.{Group, Freight, Passengers}
 use Rattle.book_shares.specs.Shares.{freightPart, passengerPart}
 use Rattle.book_shares.specs.Sums.{activityAmong, pool}
 
@@ -44,13 +46,12 @@ intensityOf ws category code side =
     (passengerIntensity ws category side)
     (freightIntensity ws category side + cond (eqb code 0) 0 (groupIntensity ws category code side))
 
--- ground 9: "intensity: its F, S or C is 0"
-abbrev pub lacksActivity : List ℕ → ℕ → ℕ → Bool
-lacksActivity ws category code =
+-- ground 9: "intensity: its F, S or C is 0"; `activity` gives that of freight, of passengers or of a group
+abbrev pub lacksActivity : (Recipients → ℕ) → ℕ → Bool
+lacksActivity activity code =
     cond (eqb code 100)
-    (eqb (activityAmong ws category Passengers) 0)
-    (eqb (activityAmong ws category Freight) 0
-    || (not (eqb code 0) && eqb (activityAmong ws category (Group code)) 0))
+    (eqb (activity Passengers) 0)
+    (eqb (activity Freight) 0 || (not (eqb code 0) && eqb (activity (Group code)) 0))
 
 -- ground 10: "an intensity result, operation or provision, would pass 10^15"
 abbrev pub mostResult : ℕ
@@ -67,7 +68,7 @@ intensityGroundsIn ws category code here =
     ∷ (2, unnumbered (categories ws) category)
     ∷ (3, not (isIntensityCode code))
     ∷ (5, not (hasClosed here))
-    ∷ (9, lacksActivity ws category code)
+    ∷ (9, lacksActivity (activityAmong ws category) code)
     ∷ (10, passesIntensity ws category code)
     ∷ []
 

@@ -1,6 +1,6 @@
+-- What a reader has to believe. `Inner` serves the contracts of inner functions.
 pub mod Sums
 pub mod Shares
 pub mod Closing
 pub mod Intensities
-pub mod Listing
-pub mod Dealing
+pub mod Inner

@@ -7,10 +7,10 @@ use Rattle.apportion.specs.Dividing.{divided}
 use Rattle.apportion.specs.Places.{at, listBelow}
 use Rattle.book_words.specs.Book.{elements, elementAt}
 use Rattle.book_words.specs.Measures.{isFreight}
-use Rattle.book_words.specs.Totals.{Side}
+use Rattle.book_words.specs.declared.totals.Side.{Side}
 use Rattle.book_words.specs.declared.records.Element.{Element}
-use Rattle.book_shares.specs.declared.weights.Takers.{Takers}
-use Rattle.book_shares.specs.declared.weights.Takers.the-variants.{Group, Freight, Passengers}
+use Rattle.book_shares.specs.declared.weights.Recipients.{Recipients}
+use Rattle.book_shares.specs.declared.weights.Recipients.the-variants.{Group, Freight, Passengers}
 use Rattle.book_shares.specs.Sums.{pool, activityAmong, passengersByMass, among}
 
 -- "Divide A by the weights F, P in that order."
@@ -27,12 +27,12 @@ passengerPart ws category side = at (dividedAll ws category side) 1
 -- the activities of the elements that a pool goes to. There is a weight for every element of the book, in its place, and it is 0
 -- for those that the pool does not go to: where the pool can be divided, these get 0 and the others what they would get alone
 -- (law `alone`)
-unfoldable pub weights : List ℕ → ℕ → Takers → List ℕ
-weights ws category takers = listBelow (elements ws) (λ p. among category takers (λ e. e .activity) (elementAt ws p))
+unfoldable pub weights : List ℕ → ℕ → Recipients → List ℕ
+weights ws category recipients = listBelow (elements ws) (λ p. among category recipients (λ e. e .activity) (elementAt ws p))
 
 -- the part of a pool that the element at this place gets
-unfoldable pub partAt : List ℕ → ℕ → Takers → ℕ → ℕ → ℕ
-partAt ws category takers amount place = at (divided amount (weights ws category takers)) place
+unfoldable pub partAt : List ℕ → ℕ → Recipients → ℕ → ℕ → ℕ
+partAt ws category recipients amount place = at (divided amount (weights ws category recipients)) place
 
 -- "Divide the freight part over freight elements by activity, the passenger part over passenger elements by activity, each B
 -- over the freight elements of its group. A share is the sum of an element's parts."

@@ -4,28 +4,29 @@ ghost use mathlib.Core.Path.{_≡_};
 ghost use Prim.Native.Nat.{ℕ, _≤_, _<_};
 ghost use lib.Dec.{ltb, eqb};
 ghost use lib.ListN.{length};
-ghost use Rattle.apportion.specs.Grounds.{firstOf, groundsBefore};
+ghost use Rattle.apportion.specs.Grounds.{firstOf};
+ghost use Rattle.apportion.specs.Inner.Grounds.{groundsBefore};
 ghost use Rattle.apportion.specs.Places.{at};
 ghost use Rattle.book_words.specs.Book.{bookLength, mostCategories, mostElements, closeCategory, putShares};
 ghost use Rattle.book_words.specs.Soundness.{sound};
-ghost use Rattle.book_shares.specs.declared.pools.Stage.the-variants.{Operation, Provision};
-ghost use Rattle.book_shares.specs.declared.weights.Takers.the-variants.{Group};
+ghost use Rattle.book_words.specs.declared.totals.Side.the-variants.{Operation, Provision};
+ghost use Rattle.book_shares.specs.declared.weights.Recipients.the-variants.{Group};
 ghost use Rattle.book_shares.specs.Closing.{closeRefusal, closeGrounds, closeBook, nothingToDivideBy, poolWithoutElements, closeWith};
-ghost use Rattle.book_shares.specs.Dealing.{sideAt, listsBySide, handOutTo};
-ghost use Rattle.book_shares.specs.Listing.{Listed, members as membersOf, activityAt, atPlaces};
+ghost use Rattle.book_shares.specs.Inner.Steps.{listsBySide, handOutTo};
+ghost use Rattle.book_shares.specs.Inner.Members.{Listed, members as membersOf, activityAt, atPlaces};
 ghost use Rattle.book_shares.specs.Shares.{closingShare};
 use crate::listing::list_members;
 use crate::pools;
-use crate::pools::Stage;
 use crate::sharing::set_shares;
 use crate::weights;
-use crate::weights::Takers;
+use crate::weights::Recipients;
 use apportion::first_of;
 use book_words::CATEGORY_LIST;
 use book_words::CLOSED_WORD;
 use book_words::ELEMENT_LIST;
 use book_words::OPERATION_SHARE_WORD;
 use book_words::PROVISION_SHARE_WORD;
+use book_words::Side;
 
 // Closes a category of a book that is known to be sound, and answers the refusal number.
 pub fn close_sound(book: &mut [u64], category: u64) -> u64
@@ -48,7 +49,7 @@ fn refusal_number(book: &[u64], category: u64) -> u64
     ensures { λ r. ⌜ r ≡ firstOf (groundsBefore 9 (closeGrounds (now (book .entry)) category)) ⌝ }
 {
     let categories = book[book_words::CATEGORIES];
-    let here = book_words::category_of(book, category);
+    let here = book_words::numbered_category(book, category);
     let unnumbered = !((1 <= category) & (category <= categories));
     let closed = here.closed != 0;
     first_of(&[2, 4], &[unnumbered, closed])
@@ -64,7 +65,7 @@ fn close_members(book: &mut [u64], category: u64, members: &[usize]) -> u64
     if lacks_elements(book, category, members) {
         return 9;
     }
-    settle(book, category, members);
+    close_with(book, category, members);
     0
 }
 
@@ -77,13 +78,13 @@ fn lacks_elements(book: &[u64], category: u64, members: &[usize]) -> bool
         || poolWithoutElements (now (book .entry)) category 1
         || poolWithoutElements (now (book .entry)) category 2 ⌝ }
 {
-    let activity = weights::activity_among(book, members, Takers::Freight);
-    let mass = weights::passengers_by_mass(book, members);
+    let activity = weights::activity_at(book, members, Recipients::Freight);
+    let mass = weights::mass_at(book, members);
     if activity + mass == 0 {
         return true;
     }
-    let operation = pools::pools_of(book, category, Stage::Operation);
-    let provision = pools::pools_of(book, category, Stage::Provision);
+    let operation = pools::pools_of(book, category, Side::Operation);
+    let provision = pools::pools_of(book, category, Side::Provision);
     is_without_elements(book, members, 1, operation.chilled, provision.chilled)
         | is_without_elements(book, members, 2, operation.frozen, provision.frozen)
 }
@@ -101,11 +102,11 @@ fn is_without_elements(
     ensures { λ r. ⌜ r ≡ (ltb 0 operation || ltb 0 provision) && eqb (activityAt (now (book .entry)) (now (members .entry)) (Group group)) 0 ⌝ }
 {
     ((0 < operation) | (0 < provision))
-        & (weights::activity_among(book, members, Takers::Group(group)) == 0)
+        & (weights::activity_at(book, members, Recipients::Group(group)) == 0)
 }
 
 // Hands out the pools of the category, and closes it.
-fn settle(book: &mut [u64], category: u64, members: &[usize])
+fn close_with(book: &mut [u64], category: u64, members: &[usize])
     requires { ⌜ closeRefusal (now book) category ≡ 0 ⌝ }
     requires { ⌜ now members ≡ membersOf (now book) category ⌝ }
     ensures { λ _. ⌜ now (book .exit) ≡ closeWith (now (book .entry)) category (closingShare (now (book .entry)) category) ⌝ }
@@ -113,7 +114,7 @@ fn settle(book: &mut [u64], category: u64, members: &[usize])
     let count = members.len();
     let mut operation = [0u64; 256];
     let mut provision = [0u64; 256];
-    settle_sides(
+    close_with_sides(
         book,
         category,
         members,
@@ -123,7 +124,7 @@ fn settle(book: &mut [u64], category: u64, members: &[usize])
 }
 
 // The same, with the shares of each side written beside the book, into slices that are 0.
-fn settle_sides(
+fn close_with_sides(
     book: &mut [u64],
     category: u64,
     members: &[usize],
@@ -136,12 +137,12 @@ fn settle_sides(
     requires { ⌜ ((k : ℕ) → at (now operation) k ≡ 0) ⌝ }
     requires { ⌜ ((k : ℕ) → at (now provision) k ≡ 0) ⌝ }
     ensures { λ _. ⌜ now (book .exit) ≡ closeWith (now (book .entry)) category (closingShare (now (book .entry)) category) ⌝ }
-    ensures { λ _. ⌜ now (operation .exit) ≡ atPlaces (now (members .entry)) (closingShare (now (book .entry)) category (sideAt Operation)) ⌝ }
-    ensures { λ _. ⌜ now (provision .exit) ≡ atPlaces (now (members .entry)) (closingShare (now (book .entry)) category (sideAt Provision)) ⌝ }
+    ensures { λ _. ⌜ now (operation .exit) ≡ atPlaces (now (members .entry)) (closingShare (now (book .entry)) category Operation) ⌝ }
+    ensures { λ _. ⌜ now (provision .exit) ≡ atPlaces (now (members .entry)) (closingShare (now (book .entry)) category Provision) ⌝ }
 {
-    set_shares(book, category, members, Stage::Operation, operation);
-    set_shares(book, category, members, Stage::Provision, provision);
-    hand_out(book, members, operation, provision);
+    set_shares(book, category, members, Side::Operation, operation);
+    set_shares(book, category, members, Side::Provision, provision);
+    hand_out_to(book, members, operation, provision);
     set_closed(book, category);
 }
 
@@ -155,7 +156,7 @@ fn set_closed(book: &mut [u64], category: u64)
 }
 
 // Writes the shares of the elements at these places.
-fn hand_out(book: &mut [u64], members: &[usize], operation: &[u64], provision: &[u64])
+fn hand_out_to(book: &mut [u64], members: &[usize], operation: &[u64], provision: &[u64])
     requires { ⌜ sound (now book) ≡ true ⌝ }
     requires { ⌜ Listed (now book) (now members) ⌝ }
     requires { ⌜ (length (now operation) ≡ length (now members)) × (length (now provision) ≡ length (now members)) ⌝ }
@@ -165,13 +166,13 @@ fn hand_out(book: &mut [u64], members: &[usize], operation: &[u64], provision: &
 {
     let mut next = 0;
     while next < members.len() {
-        give_shares(book, members[next], operation[next], provision[next]);
+        put_shares(book, members[next], operation[next], provision[next]);
         next += 1;
     }
 }
 
 // Writes the shares of the element at this place.
-fn give_shares(book: &mut [u64], place: usize, operation: u64, provision: u64)
+fn put_shares(book: &mut [u64], place: usize, operation: u64, provision: u64)
     requires { ⌜ (bookLength ≤ length (now book)) × (place < mostElements) ⌝ }
     ensures { λ _. ⌜ now (book .exit) ≡ putShares (now (book .entry)) place operation provision ⌝ }
 {

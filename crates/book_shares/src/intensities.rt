@@ -2,21 +2,21 @@
 ghost use mathlib.Core.Bool.{true};
 ghost use mathlib.Core.Path.{_≡_};
 ghost use Prim.Native.Nat.{_<_, _≤_, _*_, _^_};
-ghost use Rattle.apportion.specs.Dividing.{largest};
-ghost use Rattle.apportion.specs.Grounds.{firstOf, groundsBefore};
+ghost use Rattle.apportion.specs.Grounds.{firstOf};
+ghost use Rattle.apportion.specs.Inner.Grounds.{groundsBefore};
 ghost use Rattle.book_words.specs.Measures.{nearest};
 ghost use Rattle.book_words.specs.Soundness.{sound};
-ghost use Rattle.book_words.specs.Totals.{capped};
-ghost use Rattle.book_shares.specs.Dealing.{sideAt, scaleTens, lacksActivityAt, Allowed};
-ghost use Rattle.book_shares.specs.Intensities.{intensityReply, intensityGrounds, intensityOf};
-ghost use Rattle.book_shares.specs.Listing.{Listed, members as membersOf, activityAt};
+ghost use Rattle.book_words.specs.Inner.Steps.{mostExact, capped};
+ghost use Rattle.book_shares.specs.Inner.Steps.{scaleTens, Allowed};
+ghost use Rattle.book_shares.specs.Intensities.{lacksActivity, intensityReply, intensityGrounds, intensityOf};
+ghost use Rattle.book_shares.specs.Inner.Members.{Listed, members as membersOf, activityAt};
 use crate::listing::list_members;
 use crate::pools;
-use crate::pools::Stage;
 use crate::sharing;
 use crate::weights;
-use crate::weights::Takers;
+use crate::weights::Recipients;
 use apportion::first_of;
+use book_words::Side;
 
 // The largest result, 10^15.
 const MOST_RESULT: u64 = 1_000_000_000_000_000;
@@ -61,7 +61,7 @@ fn refusal_number(book: &[u64], category: u64, code: u64) -> u64
     ensures { λ r. ⌜ r ≡ firstOf (groundsBefore 9 (intensityGrounds (now (book .entry)) category code)) ⌝ }
 {
     let categories = book[book_words::CATEGORIES];
-    let here = book_words::category_of(book, category);
+    let here = book_words::numbered_category(book, category);
     let unnumbered = !((1 <= category) & (category <= categories));
     let unknown = !((code <= 2) | (code == 100));
     let unclosed = !(here.closed != 0);
@@ -77,8 +77,8 @@ fn measure_members(book: &[u64], category: u64, code: u64, members: &[usize]) ->
     if lacks_activity(book, members, code) {
         return refused(9);
     }
-    let operation = result(book, category, code, members, Stage::Operation);
-    let provision = result(book, category, code, members, Stage::Provision);
+    let operation = result(book, category, code, members, Side::Operation);
+    let provision = result(book, category, code, members, Side::Provision);
     if (MOST_RESULT < operation) | (MOST_RESULT < provision) {
         return refused(10);
     }
@@ -93,47 +93,53 @@ fn measure_members(book: &[u64], category: u64, code: u64, members: &[usize]) ->
 fn lacks_activity(book: &[u64], members: &[usize], code: u64) -> bool
     requires { ⌜ sound (now book) ≡ true ⌝ }
     requires { ⌜ Listed (now book) (now members) ⌝ }
-    ensures { λ r. ⌜ r ≡ lacksActivityAt (now (book .entry)) (now (members .entry)) code ⌝ }
+    ensures { λ r. ⌜ r ≡ lacksActivity (activityAt (now (book .entry)) (now (members .entry))) code ⌝ }
 {
     if code == 100 {
-        return weights::activity_among(book, members, Takers::Passengers) == 0;
+        return weights::activity_at(book, members, Recipients::Passengers) == 0;
     }
-    let freight = weights::activity_among(book, members, Takers::Freight);
+    let freight = weights::activity_at(book, members, Recipients::Freight);
     (freight == 0)
-        | ((code != 0) & (weights::activity_among(book, members, Takers::Group(code)) == 0))
+        | ((code != 0) & (weights::activity_at(book, members, Recipients::Group(code)) == 0))
 }
 
 // The intensity of one side, capped.
-fn result(book: &[u64], category: u64, code: u64, members: &[usize], stage: Stage) -> u64
+fn result(book: &[u64], category: u64, code: u64, members: &[usize], side: Side) -> u64
     requires { ⌜ Allowed (now book) category code ⌝ }
     requires { ⌜ now members ≡ membersOf (now book) category ⌝ }
-    ensures { λ r. ⌜ r ≡ capped (intensityOf (now (book .entry)) category code (sideAt stage)) ⌝ }
+    ensures { λ r. ⌜ r ≡ capped (intensityOf (now (book .entry)) category code side) ⌝ }
 {
-    let pools = pools::pools_of(book, category, stage);
+    let pools = pools::pools_of(book, category, side);
     let parts = sharing::divide_all(book, members, pools.all);
     if code == 100 {
-        return per_activity(book, members, Takers::Passengers, parts.passengers, 2);
+        return per_activity(book, members, Recipients::Passengers, parts.passengers, 2);
     }
-    let tens = scale_tens(book_words::category_of(book, category).kind);
-    let freight = per_activity(book, members, Takers::Freight, parts.freight, tens);
+    let tens = scale_tens(book_words::numbered_category(book, category).kind);
+    let freight = per_activity(book, members, Recipients::Freight, parts.freight, tens);
     if code == 0 {
         return freight;
     }
     let amount = pools::group_pool(pools, code);
     book_words::add(
         freight,
-        per_activity(book, members, Takers::Group(code), amount, tens),
+        per_activity(book, members, Recipients::Group(code), amount, tens),
     )
 }
 
 // An amount × 10^tens by the activity of the elements that it goes to, nearest, halves up, capped.
-fn per_activity(book: &[u64], members: &[usize], takers: Takers, amount: u64, tens: u64) -> u64
+fn per_activity(
+    book: &[u64],
+    members: &[usize],
+    recipients: Recipients,
+    amount: u64,
+    tens: u64,
+) -> u64
     requires { ⌜ sound (now book) ≡ true ⌝ }
     requires { ⌜ Listed (now book) (now members) ⌝ }
-    requires { ⌜ 0 < activityAt (now book) (now members) takers ⌝ }
-    ensures { λ r. ⌜ r ≡ capped (nearest (amount * 10 ^ tens) (activityAt (now (book .entry)) (now (members .entry)) takers)) ⌝ }
+    requires { ⌜ 0 < activityAt (now book) (now members) recipients ⌝ }
+    ensures { λ r. ⌜ r ≡ capped (nearest (amount * 10 ^ tens) (activityAt (now (book .entry)) (now (members .entry)) recipients)) ⌝ }
 {
-    let total = weights::activity_among(book, members, takers);
+    let total = weights::activity_at(book, members, recipients);
     quotient(amount, tens, total)
 }
 
@@ -150,7 +156,7 @@ fn scale_tens(kind: u64) -> u64
 // Amount × 10^tens / total, nearest, halves up, capped. The product passes 64 bits, so the quotient is made
 // ten by ten.
 fn quotient(amount: u64, tens: u64, total: u64) -> u64
-    requires { ⌜ (0 < total) × (total ≤ largest) ⌝ }
+    requires { ⌜ (0 < total) × (total ≤ mostExact) ⌝ }
     ensures { λ r. ⌜ r ≡ capped (nearest (amount * 10 ^ tens) total) ⌝ }
 {
     // Adding 0 caps it.

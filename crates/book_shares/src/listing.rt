@@ -6,7 +6,7 @@ ghost use lib.ListN.{length, set};
 ghost use Rattle.apportion.specs.Places.{oneIf};
 ghost use Rattle.book_words.specs.Book.{bookLength, elements, mostElements};
 ghost use Rattle.book_words.specs.Soundness.{sound};
-ghost use Rattle.book_shares.specs.Listing.{isMember, members, startingWith};
+ghost use Rattle.book_shares.specs.Inner.Members.{isMember, members, startingWith};
 use book_words::ELEMENT_LIST;
 
 // Lists the place after those listed so far, where its element is of the category, and answers how many

@@ -2,14 +2,10 @@
 ghost use mathlib.Core.Bool.{true};
 ghost use mathlib.Core.Path.{_≡_};
 ghost use Rattle.book_words.specs.Soundness.{sound};
-ghost use Rattle.book_shares.specs.Dealing.{sideAt, inGroup, poolsWith, poolsBy, groupPool};
+ghost use Rattle.book_shares.specs.Sums.{inGroup};
+ghost use Rattle.book_shares.specs.Inner.Steps.{poolsWith, poolsBy, groupPool};
 use book_words::Entry;
-
-// Vehicle operation or energy provision.
-pub enum Stage {
-    Operation,
-    Provision,
-}
+use book_words::Side;
 
 // The three pools of a category, on one side.
 pub struct Pools {
@@ -21,36 +17,36 @@ pub struct Pools {
 }
 
 // What an entry of the category adds to the pool of a group.
-fn pooled(group: u64, stage: Stage, e: Entry) -> u64
-    ensures { λ r. ⌜ r ≡ inGroup group (sideAt stage) e ⌝ }
+fn in_group(group: u64, side: Side, e: Entry) -> u64
+    ensures { λ r. ⌜ r ≡ inGroup group side e ⌝ }
 {
     if (e.group != group) | (e.struck != 0) {
         return 0;
     }
-    match stage {
-        Stage::Operation => e.operation,
-        Stage::Provision => e.provision,
+    match side {
+        Side::Operation => e.operation,
+        Side::Provision => e.provision,
     }
 }
 
 // The pools with what an entry adds to them, where it is of the category.
-fn add_entry(pools: Pools, category: u64, stage: Stage, e: Entry) -> Pools
-    ensures { λ r. ⌜ r ≡ poolsWith pools category (sideAt stage) e ⌝ }
+fn pools_with(pools: Pools, category: u64, side: Side, e: Entry) -> Pools
+    ensures { λ r. ⌜ r ≡ poolsWith pools category side e ⌝ }
 {
     if e.category != category {
         return pools;
     }
     Pools {
-        all: book_words::add(pools.all, pooled(0, stage, e)),
-        chilled: book_words::add(pools.chilled, pooled(1, stage, e)),
-        frozen: book_words::add(pools.frozen, pooled(2, stage, e)),
+        all: book_words::add(pools.all, in_group(0, side, e)),
+        chilled: book_words::add(pools.chilled, in_group(1, side, e)),
+        frozen: book_words::add(pools.frozen, in_group(2, side, e)),
     }
 }
 
 // The unstruck entries of the category: A of group 0, B1 and B2 of groups 1 and 2.
-pub fn pools_of(book: &[u64], category: u64, stage: Stage) -> Pools
+pub fn pools_of(book: &[u64], category: u64, side: Side) -> Pools
     requires { ⌜ sound (now book) ≡ true ⌝ }
-    ensures { λ r. ⌜ r ≡ poolsBy (now (book .entry)) category (sideAt stage) ⌝ }
+    ensures { λ r. ⌜ r ≡ poolsBy (now (book .entry)) category side ⌝ }
 {
     let count = book[book_words::ENTRIES];
     let mut pools = Pools {
@@ -60,8 +56,8 @@ pub fn pools_of(book: &[u64], category: u64, stage: Stage) -> Pools
     };
     let mut passed = 0;
     while passed < count {
-        let e = book_words::entry_of(book, passed + 1);
-        pools = add_entry(pools, category, stage, e);
+        let e = book_words::numbered_entry(book, passed + 1);
+        pools = pools_with(pools, category, side, e);
         passed += 1;
     }
     pools

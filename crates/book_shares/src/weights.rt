@@ -6,16 +6,15 @@ ghost use Prim.Native.Nat.{_<_};
 ghost use lib.ListN.{length};
 ghost use Rattle.apportion.specs.Places.{at};
 ghost use Rattle.book_words.specs.Book.{elementAt};
-ghost use Rattle.book_words.specs.Measures.{byMass};
 ghost use Rattle.book_words.specs.Soundness.{sound};
-ghost use Rattle.book_words.specs.Totals.{capped};
-ghost use Rattle.book_shares.specs.declared.weights.Takers.the-variants.{Passengers};
-ghost use Rattle.book_shares.specs.Listing.{Listed, taking, measureOf, weightsAt, sumAt, activityAt, massAt};
-ghost use Rattle.book_shares.specs.Sums.{takes};
+ghost use Rattle.book_words.specs.Inner.Steps.{capped};
+ghost use Rattle.book_shares.specs.declared.weights.Measure.the-variants.{Activity, Mass};
+ghost use Rattle.book_shares.specs.Inner.Members.{Listed, measureOf, weightsAt, sumAt, activityAt, massAt};
+ghost use Rattle.book_shares.specs.Sums.{receives};
 use book_words::Element;
 
 // The elements that a pool goes to.
-pub enum Takers {
+pub enum Recipients {
     // Ambient, chilled or frozen.
     Freight,
     Passengers,
@@ -24,21 +23,21 @@ pub enum Takers {
 }
 
 // An element with this code is one of them.
-fn is_taker(takers: Takers, code: u64) -> bool
-    ensures { λ r. ⌜ r ≡ takes takers code ⌝ }
+fn receives(recipients: Recipients, code: u64) -> bool
+    ensures { λ r. ⌜ r ≡ receives recipients code ⌝ }
 {
-    match takers {
-        Takers::Freight => code <= 2,
-        Takers::Passengers => (100 <= code) & (code <= 1000),
-        Takers::Group(group) => code == group,
+    match recipients {
+        Recipients::Freight => code <= 2,
+        Recipients::Passengers => (100 <= code) & (code <= 1000),
+        Recipients::Group(group) => code == group,
     }
 }
 
 // The activity of such an element; 0 for any other.
-fn weight(takers: Takers, e: Element) -> u64
-    ensures { λ r. ⌜ r ≡ taking takers (λ x. x .activity) e ⌝ }
+fn weight(recipients: Recipients, e: Element) -> u64
+    ensures { λ r. ⌜ r ≡ measureOf (Activity recipients) e ⌝ }
 {
-    if is_taker(takers, e.code) {
+    if receives(recipients, e.code) {
         return e.activity;
     }
     0
@@ -47,16 +46,16 @@ fn weight(takers: Takers, e: Element) -> u64
 // What a sum over elements adds up.
 pub enum Measure {
     // Their activity, where a pool goes to them: F, C or S.
-    Activity(Takers),
+    Activity(Recipients),
     // Head count × 100 × distance, where they are passengers: P.
     Mass,
 }
 
 // Head count × 100 × distance of a passenger element, capped; 0 for any other.
-fn by_mass(e: Element) -> u64
-    ensures { λ r. ⌜ r ≡ capped (taking Passengers byMass e) ⌝ }
+fn capped_mass(e: Element) -> u64
+    ensures { λ r. ⌜ r ≡ capped (measureOf Mass e) ⌝ }
 {
-    if is_taker(Takers::Passengers, e.code) {
+    if receives(Recipients::Passengers, e.code) {
         return book_words::multiply(book_words::multiply(e.amount, 100), e.distance);
     }
     0
@@ -68,8 +67,8 @@ fn capped_measure(measure: Measure, e: Element) -> u64
 {
     match measure {
         // Adding 0 caps it.
-        Measure::Activity(takers) => book_words::add(weight(takers, e), 0),
-        Measure::Mass => by_mass(e),
+        Measure::Activity(recipients) => book_words::add(weight(recipients, e), 0),
+        Measure::Mass => capped_mass(e),
     }
 }
 
@@ -80,25 +79,25 @@ fn member(book: &[u64], members: &[usize], index: usize) -> Element
     requires { ⌜ index < length (now members) ⌝ }
     ensures { λ r. ⌜ r ≡ elementAt (now (book .entry)) (at (now (members .entry)) index) ⌝ }
 {
-    book_words::element_of(book, members[index] as u64 + 1)
+    book_words::numbered_element(book, members[index] as u64 + 1)
 }
 
 // Writes the weight of each element.
-pub fn set_weights(book: &[u64], members: &[usize], takers: Takers, weights: &mut [u64])
+pub fn set_weights(book: &[u64], members: &[usize], recipients: Recipients, weights: &mut [u64])
     requires { ⌜ sound (now book) ≡ true ⌝ }
     requires { ⌜ Listed (now book) (now members) ⌝ }
     requires { ⌜ length (now weights) ≡ length (now members) ⌝ }
-    ensures { λ _. ⌜ now (weights .exit) ≡ weightsAt (now (book .entry)) (now (members .entry)) takers ⌝ }
+    ensures { λ _. ⌜ now (weights .exit) ≡ weightsAt (now (book .entry)) (now (members .entry)) recipients ⌝ }
 {
     let mut next = 0;
     while next < members.len() {
-        weights[next] = weight(takers, member(book, members, next));
+        weights[next] = weight(recipients, member(book, members, next));
         next += 1;
     }
 }
 
 // The sum of what the elements add.
-fn sum_among(book: &[u64], members: &[usize], measure: Measure) -> u64
+fn sum_at(book: &[u64], members: &[usize], measure: Measure) -> u64
     requires { ⌜ sound (now book) ≡ true ⌝ }
     requires { ⌜ Listed (now book) (now members) ⌝ }
     ensures { λ r. ⌜ r ≡ sumAt (now (book .entry)) (now (members .entry)) measure ⌝ }
@@ -113,19 +112,19 @@ fn sum_among(book: &[u64], members: &[usize], measure: Measure) -> u64
 }
 
 // The activity of the elements that a pool goes to: F, C or S.
-pub fn activity_among(book: &[u64], members: &[usize], takers: Takers) -> u64
+pub fn activity_at(book: &[u64], members: &[usize], recipients: Recipients) -> u64
     requires { ⌜ sound (now book) ≡ true ⌝ }
     requires { ⌜ Listed (now book) (now members) ⌝ }
-    ensures { λ r. ⌜ r ≡ activityAt (now (book .entry)) (now (members .entry)) takers ⌝ }
+    ensures { λ r. ⌜ r ≡ activityAt (now (book .entry)) (now (members .entry)) recipients ⌝ }
 {
-    sum_among(book, members, Measure::Activity(takers))
+    sum_at(book, members, Measure::Activity(recipients))
 }
 
 // P.
-pub fn passengers_by_mass(book: &[u64], members: &[usize]) -> u64
+pub fn mass_at(book: &[u64], members: &[usize]) -> u64
     requires { ⌜ sound (now book) ≡ true ⌝ }
     requires { ⌜ Listed (now book) (now members) ⌝ }
     ensures { λ r. ⌜ r ≡ massAt (now (book .entry)) (now (members .entry)) ⌝ }
 {
-    sum_among(book, members, Measure::Mass)
+    sum_at(book, members, Measure::Mass)
 }

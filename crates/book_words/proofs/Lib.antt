@@ -1,15 +1,29 @@
 -- What the proofs over the words of a book share.
+-- tests joined by `&&`, and choices by a test
 pub mod Booleans
-pub mod Every
-pub mod Facts
-pub mod Capping
+-- tests that every place passes
+pub mod EveryPlace
+-- soundness taken apart into its tests
+pub mod SoundTests
+-- capped sums and products, which decide a comparison with a limit as the sums and products do
+pub mod CappedSums
+-- ranges and tests as numbers, above all those of ground 7
 pub mod Ranges
-pub mod Adding
-pub mod Rules
-pub mod Writes
-pub mod Views
-pub mod Wholes
-pub mod Numbered
-pub mod Kept
-pub mod Keys
-pub mod Handed
+-- a capped sum that a loop adds up
+pub mod SumLoop
+-- the rules of a record
+pub mod RecordRules
+-- words after a write
+pub mod WordsAfterWrite
+-- records after a write
+pub mod RecordsAfterWrite
+-- a sound book as facts about its records and sums, and back
+pub mod SoundRecords
+-- the record of a number
+pub mod NumberedRecords
+-- records that are the same in two books, and the sums over them
+pub mod SameRecords
+-- sums by keys
+pub mod SumsByKey
+-- the shares of a sound book, by categories and by chains
+pub mod ShareSums

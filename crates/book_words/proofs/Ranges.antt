@@ -1,4 +1,4 @@
--- What the ranges of ground 7 say as numbers. Assumes nothing.
+-- What ranges and tests say as numbers, above all those of ground 7. Assumes nothing.
 use mathlib.Core.Bool.{true, Bool, _||_, false, cond}
 use mathlib.Core.Logic.{_⊎_, ⊎-elim}
 use mathlib.Core.Path.{_≡_, refl}
@@ -7,8 +7,8 @@ use native.Mathlib.Nat.{mul-le-mul, eq-zero-or-pos}
 use native.Mathlib.Omega.{arith}
 use lib.Dec.{leb, eqb}
 use borrow.Author.Tests.{leb-true, lt-leb, eqb-true, leb-false, eqb-false}
-use Rattle.apportion.specs.Dividing.{largest}
-use Rattle.book_words.specs.Measures.{between, isCode, isFreight, isPassenger, isAmount, isDistance, isHub, activityOf}
+use Rattle.book_words.specs.Inner.Steps.{mostExact}
+use Rattle.book_words.specs.Measures.{between, isCode, isFreight, isPassenger, isAmount, isDistanceIn, isHub, activityOf}
 use Rattle.book_words.proofs.Booleans.{both, and-false}
 
 pub between-low : (low high n : ℕ) → between low high n ≡ true → low ≤ n
@@ -50,7 +50,7 @@ amount-most code amount e = go (isFreight code) e
     go true h = between-high 1 1_000_000_000 amount h
     go false h = omega (arith, between-high 1 1_000_000 amount h)
 
-pub distance-most : (kind distance : ℕ) → isDistance kind distance ≡ true → distance ≤ 40_000_000
+pub distance-most : (kind distance : ℕ) → isDistanceIn kind distance ≡ true → distance ≤ 40_000_000
 distance-most kind distance e = go (isHub kind) e
   where
     go : (t : Bool) → cond t (eqb distance 0) (between 1 40_000_000 distance) ≡ true → distance ≤ 40_000_000
@@ -58,12 +58,12 @@ distance-most kind distance e = go (isHub kind) e
     go false h = between-high 1 40_000_000 distance h
 
 -- an activity in range is not capped
-pub activity-small : (kind code amount distance : ℕ) → isCode code ≡ true → isAmount code amount ≡ true → isDistance kind distance ≡ true
-    → activityOf kind code amount distance ≤ largest
+pub activity-small : (kind code amount distance : ℕ) → isCode code ≡ true → isAmount code amount ≡ true → isDistanceIn kind distance ≡ true
+    → activityOf kind code amount distance ≤ mostExact
 unfolding activityOf
 activity-small kind code amount distance known fine far = go (isFreight code) refl (isHub kind)
   where
-    go : (t : Bool) → isFreight code ≡ t → (h : Bool) → cond t (cond h amount (amount * distance)) (amount * code * distance) ≤ largest
+    go : (t : Bool) → isFreight code ≡ t → (h : Bool) → cond t (cond h amount (amount * distance)) (amount * code * distance) ≤ mostExact
     go true e true = omega (arith, amount-most code amount fine)
     go true e false = omega (arith, mul-le-mul (amount-most code amount fine) (distance-most kind distance far))
     go false e h =

@@ -176,6 +176,20 @@ putShares ws place byOperation byProvision =
     (elementStart place + provisionShareWord)
     byProvision
 
+-- the same element with these shares
+abbrev pub withShares : Element → ℕ → ℕ → Element
+withShares r byOperation byProvision =
+    record {
+      category = r .category;
+      chain = r .chain;
+      code = r .code;
+      amount = r .amount;
+      distance = r .distance;
+      activity = r .activity;
+      operation = byOperation;
+      provision = byProvision;
+    }
+
 -- ground 2: "A category or entry number is not between 1 and its count."
 abbrev pub unnumbered : ℕ → ℕ → Bool
 unnumbered count number = not (between 1 count number)

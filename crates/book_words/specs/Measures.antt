@@ -1,4 +1,4 @@
--- "Units", the codes and the activity of "The book", and the values and ranges of grounds 3, 6 and 7. Assumes nothing.
+-- The values, the codes and the activity of "The book", grounds 3, 6 and 7, passengers by mass, and rounding. Assumes nothing.
 use mathlib.Core.Bool.{Bool, _&&_, _||_, cond}
 use Prim.Native.Nat.{ℕ, _*_, _+_, _/_}
 use lib.Dec.{leb, eqb}
@@ -57,13 +57,25 @@ isQuantity quantity = leb quantity 1_000_000_000_000
 abbrev pub isFactor : ℕ → Bool
 isFactor factor = leb factor 10_000_000_000
 
--- "mass 1 to 10^9, heads 1 to 10^6"
-abbrev pub isAmount : ℕ → ℕ → Bool
-isAmount code amount = cond (isFreight code) (between 1 1_000_000_000 amount) (between 1 1_000_000 amount)
+-- "mass 1 to 10^9"
+abbrev pub isMass : ℕ → Bool
+isMass mass = between 1 1_000_000_000 mass
 
--- "distance 1 to 40,000,000 but only 0 in a hub"
-abbrev pub isDistance : ℕ → ℕ → Bool
-isDistance kind distance = cond (isHub kind) (eqb distance 0) (between 1 40_000_000 distance)
+-- "heads 1 to 10^6"
+abbrev pub isHeads : ℕ → Bool
+isHeads heads = between 1 1_000_000 heads
+
+-- an element's amount: a mass, or a head count
+abbrev pub isAmount : ℕ → ℕ → Bool
+isAmount code amount = cond (isFreight code) (isMass amount) (isHeads amount)
+
+-- "distance 1 to 40,000,000"
+abbrev pub isDistance : ℕ → Bool
+isDistance distance = between 1 40_000_000 distance
+
+-- "but only 0 in a hub"
+abbrev pub isDistanceIn : ℕ → ℕ → Bool
+isDistanceIn kind distance = cond (isHub kind) (eqb distance 0) (isDistance distance)
 
 -- "intensity 0 to 10^9"
 abbrev pub isIntensity : ℕ → Bool
@@ -90,6 +102,6 @@ byStandardMass e = e .amount * 100 * e .distance
 unfoldable pub massActivity : Element → ℕ
 massActivity e = cond (isFreight (e .code)) (e .activity) (byStandardMass e)
 
--- "nearest, halves up": the whole number nearest to n / d
+-- "nearest, halves up": the whole number nearest to n / d, where d is above 0
 abbrev pub nearest : ℕ → ℕ → ℕ
 nearest n d = (2 * n + d) / (2 * d)

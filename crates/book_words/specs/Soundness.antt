@@ -1,17 +1,17 @@
 -- "A book is *sound* when ..", the test of ground 1. Assumes nothing.
 use mathlib.Core.Bool.{Bool, true, _&&_, not, cond}
 use mathlib.Core.List.{List}
-use Prim.Native.Nat.{ℕ, zero, suc, _+_}
+use Prim.Native.Nat.{ℕ, zero, suc, _+_, _*_}
 use lib.Dec.{leb, eqb}
 use lib.ListN.{length}
-use Rattle.apportion.specs.Dividing.{largest}
 use Rattle.apportion.specs.Places.{at}
 use Rattle.book_words.specs.declared.records.Category.{Category}
 use Rattle.book_words.specs.declared.records.Element.{Element}
 use Rattle.book_words.specs.declared.records.Entry.{Entry}
 use Rattle.book_words.specs.Book.{bookLength, mark, categories, mostCategories, entries, mostEntries, elements, mostElements, categoryOf, categoryAt, entryAt, elementAt}
-use Rattle.book_words.specs.Measures.{isKind, isGroup, unsuited, unsuitedGroup, between, isAmount, isDistance, activityOf, isChain, isCode}
-use Rattle.book_words.specs.Totals.{operation, provision, sumsOf, withinLimits, sharesOf, unstruckOf}
+use Rattle.book_words.specs.Measures.{isKind, isGroup, unsuited, unsuitedGroup, between, isMass, isAmount, isDistance, isDistanceIn, activityOf, isChain, isCode}
+use Rattle.book_words.specs.declared.totals.Side.the-variants.{Operation as operation, Provision as provision}
+use Rattle.book_words.specs.Totals.{sumsOf, withinLimits, sharesOf, unstruckOf}
 
 -- every place below n passes the test
 abbrev pub allBelow : ℕ → (ℕ → Bool) → Bool
@@ -31,13 +31,17 @@ headerFine ws =
 unfoldable pub categoryFine : Category → Bool
 categoryFine r = isKind (r .kind) && leb (r .closed) 1
 
--- an entry of this category: "an entry's amounts 0 to 10^18 µg", and it "suits its category's kind"
+-- "an entry's amounts 0 to 10^18 µg"
+abbrev pub mostAmount : ℕ
+mostAmount = 1_000_000_000_000_000_000
+
+-- an entry of this category: its fields are in range, and it "suits its category's kind"
 unfoldable pub entrySuits : Category → Entry → Bool
 entrySuits category r =
     isGroup (r .group)
     && not (unsuitedGroup (category .kind) (r .group))
-    && leb (r .operation) largest
-    && leb (r .provision) largest
+    && leb (r .operation) mostAmount
+    && leb (r .provision) mostAmount
     && leb (r .struck) 1
 
 unfoldable pub entryFine : List ℕ → Entry → Bool
@@ -47,13 +51,17 @@ entryFine ws r = between 1 (categories ws) (r .category) && entrySuits (category
 unfoldable pub measured : ℕ → Element → Bool
 measured kind r =
     isAmount (r .code) (r .amount)
-    && isDistance kind (r .distance)
+    && isDistanceIn kind (r .distance)
     && eqb (r .activity) (activityOf kind (r .code) (r .amount) (r .distance))
 
--- "(a quoted element has code 0 and a distance above 0)": it is measured as freight outside a hub, kind 1. Its shares are
--- any words within the sums
+-- "(a quoted element has code 0 and a distance above 0)"; "Its activity is mass × distance." Its shares are any words within the sums
 unfoldable pub quotedSuits : Element → Bool
-quotedSuits r = isChain (r .chain) && eqb (r .code) 0 && measured 1 r
+quotedSuits r =
+    isChain (r .chain)
+    && eqb (r .code) 0
+    && isMass (r .amount)
+    && isDistance (r .distance)
+    && eqb (r .activity) (r .amount * r .distance)
 
 -- "shares in open categories are 0"
 abbrev pub sharesWait : Category → Element → Bool

@@ -1,21 +1,19 @@
 -- The sums of ground 10 and of soundness. Assumes nothing.
 use mathlib.Core.Bool.{cond, Bool, not, _&&_}
 use mathlib.Core.List.{List}
-use Prim.Native.Nat.{ℕ, _+_, min, suc}
+use Prim.Native.Nat.{ℕ, _+_}
 use lib.Dec.{eqb, leb}
-use Rattle.apportion.specs.Dividing.{largest}
 use Rattle.apportion.specs.Places.{sumBelow}
+use Rattle.book_words.specs.declared.totals.Side.{Side}
+use Rattle.book_words.specs.declared.totals.Side.the-variants.{Operation as operation, Provision as provision}
 use Rattle.book_words.specs.declared.records.Element.{Element}
 use Rattle.book_words.specs.declared.records.Entry.{Entry}
 use Rattle.book_words.specs.declared.totals.Sums.{Sums}
 use Rattle.book_words.specs.Book.{entries, entryAt, elements, elementAt}
 use Rattle.book_words.specs.Measures.{massActivity}
 
--- "Operation (VO) and provision (VEP) amounts are kept separate throughout (Formulae 1 to 5)."
-pub data Side : Type 0 where
-  operation provision : Side
-
--- an entry's amount, and an element's share, of this side
+-- "Operation (VO) and provision (VEP) amounts are kept separate throughout (Formulae 1 to 5).": an entry's amount, and an element's
+-- share, of this `Side`
 abbrev pub amountOf : Side → Entry → ℕ
 amountOf operation e = e .operation
 amountOf provision e = e .provision
@@ -42,35 +40,26 @@ unfoldable pub sharesOf : List ℕ → ℕ → Side → ℕ
 sharesOf ws category side =
     sumBelow (elements ws) (λ p. cond (eqb (elementAt ws p .category) category) (shareOf side (elementAt ws p)) 0)
 
--- ground 10: "Unstruck entries plus quoted shares"; their limit of 10^18 µg is `largest`
+-- ground 10: "Unstruck entries plus quoted shares"
 abbrev pub emitted : List ℕ → Side → ℕ
 emitted ws side = allUnstruck ws side + sharesOf ws 0 side
+
+-- their limit: "10^18 µg in operation or provision"
+abbrev pub mostEmissions : ℕ
+mostEmissions = 1_000_000_000_000_000_000
 
 -- ground 10: "activity over all elements (hubs and quotes too, passengers as in P)"
 unfoldable pub activities : List ℕ → ℕ
 activities ws = sumBelow (elements ws) (λ p. massActivity (elementAt ws p))
 
--- "10^17"
+-- its limit: "10^17"
 abbrev pub mostActivity : ℕ
 mostActivity = 100_000_000_000_000_000
 
--- A sum of any words may pass 64 bits. The code's sums stop at 10^18 + 1, which decides every ground as the sum does.
-abbrev pub capped : ℕ → ℕ
-capped n = min n (suc largest)
-
--- ground 10's sums over a book: "Unstruck entries plus quoted shares" of either side, and "activity over all elements"
+-- ground 10's sums over a book
 abbrev pub sumsOf : List ℕ → Sums
 sumsOf ws =
     record { operation = emitted ws operation; provision = emitted ws provision; activity = activities ws }
-
--- each of them capped
-abbrev pub capSums : Sums → Sums
-capSums sums =
-    record {
-      operation = capped (sums .operation);
-      provision = capped (sums .provision);
-      activity = capped (sums .activity);
-    }
 
 -- ground 10's "quoted shares": what an element adds to them
 abbrev pub quotedShare : Side → Element → ℕ
@@ -96,7 +85,7 @@ withElement sums e =
 -- no sum passes its limit of ground 10
 abbrev pub withinLimits : Sums → Bool
 withinLimits sums =
-    leb (sums .operation) largest && leb (sums .provision) largest && leb (sums .activity) mostActivity
+    leb (sums .operation) mostEmissions && leb (sums .provision) mostEmissions && leb (sums .activity) mostActivity
 
 -- ground 10 of a call: "Unstruck entries plus quoted shares would pass 10^18 µg in operation or provision, activity over all
 -- elements .. would pass 10^17". These are the sums with the record that the call would append

@@ -1,7 +1,7 @@
 // Codes, ranges and activities.
 ghost use mathlib.Core.Path.{_≡_};
-ghost use Rattle.book_words.specs.Measures.{isKind, isChain, isCode, unsuited, unsuitedGroup, isAmount, isDistance, activityOf};
-ghost use Rattle.book_words.specs.Totals.{capped};
+ghost use Rattle.book_words.specs.Measures.{isKind, isChain, isCode, unsuited, unsuitedGroup, isMass, isHeads, isAmount, isDistance, isDistanceIn, activityOf};
+ghost use Rattle.book_words.specs.Inner.Steps.{capped};
 use crate::totals;
 
 pub fn is_kind(kind: u64) -> bool
@@ -36,25 +36,42 @@ pub fn unsuited_group(kind: u64, group: u64) -> bool
     ((1 <= group) & (group <= 2)) & (kind == 2)
 }
 
+pub fn is_mass(mass: u64) -> bool
+    ensures { λ r. ⌜ r ≡ isMass mass ⌝ }
+{
+    (1 <= mass) & (mass <= 1_000_000_000)
+}
+
+fn is_heads(heads: u64) -> bool
+    ensures { λ r. ⌜ r ≡ isHeads heads ⌝ }
+{
+    (1 <= heads) & (heads <= 1_000_000)
+}
+
 // A mass, or a head count.
 pub fn is_amount(code: u64, amount: u64) -> bool
     ensures { λ r. ⌜ r ≡ isAmount code amount ⌝ }
 {
     if code <= 2 {
-        (1 <= amount) & (amount <= 1_000_000_000)
-    } else {
-        (1 <= amount) & (amount <= 1_000_000)
+        return is_mass(amount);
     }
+    is_heads(amount)
 }
 
-pub fn is_distance(kind: u64, distance: u64) -> bool
-    ensures { λ r. ⌜ r ≡ isDistance kind distance ⌝ }
+pub fn is_distance(distance: u64) -> bool
+    ensures { λ r. ⌜ r ≡ isDistance distance ⌝ }
+{
+    (1 <= distance) & (distance <= 40_000_000)
+}
+
+// Only 0 in a hub.
+pub fn is_distance_in(kind: u64, distance: u64) -> bool
+    ensures { λ r. ⌜ r ≡ isDistanceIn kind distance ⌝ }
 {
     if kind == 4 {
-        distance == 0
-    } else {
-        (1 <= distance) & (distance <= 40_000_000)
+        return distance == 0;
     }
+    is_distance(distance)
 }
 
 // The activity of an amount over a distance, capped.

@@ -5,15 +5,18 @@ ghost use mathlib.Core.Path.{_≡_};
 ghost use Prim.Native.Nat.{_<_};
 ghost use Rattle.book_words.specs.Book.{mostEntries, entryAt, mostElements, elementAt, mostCategories};
 ghost use Rattle.book_words.specs.Measures.{isCode};
-ghost use Rattle.book_words.specs.Parts.{numberedCategory, numberedEntry, numberedElement, CountsWithin, Limited, countIn, recordFine, listFine};
+ghost use Rattle.book_words.specs.Inner.Steps.{numberedCategory, numberedEntry, numberedElement, CountsWithin, Limited, countIn, recordFine, listFine};
 ghost use Rattle.book_words.specs.Soundness.{allBelow, sound, headerFine, categoryFine, entryFine, entrySuits, sumsFine, sharesFine};
-ghost use Rattle.book_words.specs.Soundness.{elementFine, quotedSuits, elementSuits, measured as measuredFor, sharesWait};
+ghost use Rattle.book_words.specs.Soundness.{elementFine, quotedSuits, elementSuits, measured, sharesWait};
 use crate::measures;
 use crate::records;
 use crate::records::Category;
 use crate::records::Element;
 use crate::records::Entry;
 use crate::totals;
+
+// The largest amount of an entry, 10^18 µg.
+const MOST_AMOUNT: u64 = 1_000_000_000_000_000_000;
 
 // The book is sound. Its header and its sums are tested as lists of one record each.
 pub fn is_sound(book: &[u64]) -> bool
@@ -37,7 +40,7 @@ pub fn is_sound(book: &[u64]) -> bool
 }
 
 // The category of this number, or zeros where there is none.
-pub fn category_of(book: &[u64], number: u64) -> Category
+pub fn numbered_category(book: &[u64], number: u64) -> Category
     requires { ⌜ sound (now book) ≡ true ⌝ }
     ensures { λ r. ⌜ r ≡ numberedCategory (now (book .entry)) number ⌝ }
 {
@@ -48,7 +51,7 @@ pub fn category_of(book: &[u64], number: u64) -> Category
 }
 
 // The entry of this number, or zeros where there is none.
-pub fn entry_of(book: &[u64], number: u64) -> Entry
+pub fn numbered_entry(book: &[u64], number: u64) -> Entry
     requires { ⌜ sound (now book) ≡ true ⌝ }
     ensures { λ r. ⌜ r ≡ numberedEntry (now (book .entry)) number ⌝ }
 {
@@ -65,7 +68,7 @@ pub fn entry_of(book: &[u64], number: u64) -> Entry
 }
 
 // The element of this number, or zeros where there is none.
-pub fn element_of(book: &[u64], number: u64) -> Element
+pub fn numbered_element(book: &[u64], number: u64) -> Element
     requires { ⌜ sound (now book) ≡ true ⌝ }
     ensures { λ r. ⌜ r ≡ numberedElement (now (book .entry)) number ⌝ }
 {
@@ -159,8 +162,8 @@ fn entry_suits(category: Category, r: Entry) -> bool
 {
     (r.group <= 2)
         & !measures::unsuited_group(category.kind, r.group)
-        & (r.operation <= totals::LARGEST)
-        & (r.provision <= totals::LARGEST)
+        & (r.operation <= MOST_AMOUNT)
+        & (r.provision <= MOST_AMOUNT)
         & (r.struck <= 1)
 }
 
@@ -186,6 +189,7 @@ fn quoted_suits(r: Element) -> bool
     if !(measures::is_chain(r.chain) & (r.code == 0)) {
         return false;
     }
+    // As freight outside a hub.
     measured(1, r)
 }
 
@@ -204,9 +208,9 @@ fn element_suits(category: Category, r: Element) -> bool
 // The amount and the distance are in range, and the activity is right.
 fn measured(kind: u64, r: Element) -> bool
     requires { ⌜ isCode (r .code) ≡ true ⌝ }
-    ensures { λ b. ⌜ b ≡ measuredFor kind r ⌝ }
+    ensures { λ b. ⌜ b ≡ measured kind r ⌝ }
 {
-    if !(measures::is_amount(r.code, r.amount) & measures::is_distance(kind, r.distance)) {
+    if !(measures::is_amount(r.code, r.amount) & measures::is_distance_in(kind, r.distance)) {
         return false;
     }
     r.activity == measures::activity(kind, r.code, r.amount, r.distance)
@@ -234,7 +238,7 @@ fn shares_fine(book: &[u64], place: usize) -> bool
         return true;
     }
     let number = place as u64 + 1;
-    let shares = totals::shares_of(book, number);
-    let unstruck = totals::unstruck_of(book, number);
+    let shares = totals::capped_shares_of(book, number);
+    let unstruck = totals::capped_unstruck_of(book, number);
     (shares.operation == unstruck.operation) & (shares.provision == unstruck.provision)
 }

@@ -5,19 +5,30 @@ ghost use Prim.Native.Nat.{_+_, _*_};
 ghost use lib.Dec.{eqb};
 ghost use Rattle.book_words.specs.Book.{entries};
 ghost use Rattle.book_words.specs.Measures.{massActivity};
-ghost use Rattle.book_words.specs.Parts.{bySides, sideOf, sumsBelow, CountsWithin};
+ghost use Rattle.book_words.specs.Inner.Steps.{bySides, sideOf, sumsBelow, CountsWithin};
 ghost use Rattle.book_words.specs.Soundness.{sound};
-ghost use Rattle.book_words.specs.Totals.{capped, unstruck as unstruckBy, unstruckOf, shareOf, sharesOf};
-ghost use Rattle.book_words.specs.Totals.{sumsOf, capSums, withEntry, withElement, withinLimits};
+ghost use Rattle.book_words.specs.Totals.{unstruck, unstruckOf, shareOf, sharesOf};
+ghost use Rattle.book_words.specs.Inner.Steps.{capped};
+ghost use Rattle.book_words.specs.Totals.{sumsOf, withEntry, withElement, withinLimits};
+ghost use Rattle.book_words.specs.Inner.Steps.{capSums};
 use crate::records;
 use crate::records::Element;
 use crate::records::Entry;
 
 // The largest sum of unstruck entries and quoted shares, 10^18 µg.
-pub const LARGEST: u64 = 1_000_000_000_000_000_000;
+const MOST_EMISSIONS: u64 = 1_000_000_000_000_000_000;
+
+// Sums and products are exact up to this; one more stands for all that is more.
+const MOST_EXACT: u64 = 1_000_000_000_000_000_000;
 
 // The largest sum of activities, 10^17.
 const MOST_ACTIVITY: u64 = 100_000_000_000_000_000;
+
+// Vehicle operation or energy provision.
+pub enum Side {
+    Operation,
+    Provision,
+}
 
 // An amount of operation and one of provision, kept apart.
 pub struct Amounts {
@@ -36,11 +47,11 @@ pub struct Sums {
 pub fn add(a: u64, b: u64) -> u64
     ensures { λ r. ⌜ r ≡ capped (a + b) ⌝ }
 {
-    if a > LARGEST {
-        return LARGEST + 1;
+    if a > MOST_EXACT {
+        return MOST_EXACT + 1;
     }
-    if b > LARGEST - a {
-        return LARGEST + 1;
+    if b > MOST_EXACT - a {
+        return MOST_EXACT + 1;
     }
     a + b
 }
@@ -52,8 +63,8 @@ pub fn multiply(a: u64, b: u64) -> u64
     if b == 0 {
         return 0;
     }
-    if a > LARGEST / b {
-        return LARGEST + 1;
+    if a > MOST_EXACT / b {
+        return MOST_EXACT + 1;
     }
     a * b
 }
@@ -82,8 +93,8 @@ fn amounts_where(test: bool, amounts: Amounts) -> Amounts
 }
 
 // What an entry adds: its amounts, or nothing where it is struck.
-fn unstruck(e: Entry) -> Amounts
-    ensures { λ r. ⌜ r ≡ bySides (λ s. unstruckBy s e) ⌝ }
+fn unstruck_amounts(e: Entry) -> Amounts
+    ensures { λ r. ⌜ r ≡ bySides (λ s. unstruck s e) ⌝ }
 {
     let amounts = Amounts {
         operation: e.operation,
@@ -94,13 +105,13 @@ fn unstruck(e: Entry) -> Amounts
 
 // What an entry adds to this category.
 fn unstruck_in(category: u64, e: Entry) -> Amounts
-    ensures { λ r. ⌜ r ≡ bySides (λ s. cond (eqb (e .category) category) (unstruckBy s e) 0) ⌝ }
+    ensures { λ r. ⌜ r ≡ bySides (λ s. cond (eqb (e .category) category) (unstruck s e) 0) ⌝ }
 {
-    amounts_where(e.category == category, unstruck(e))
+    amounts_where(e.category == category, unstruck_amounts(e))
 }
 
 // The unstruck entries of a category.
-pub fn unstruck_of(book: &[u64], category: u64) -> Amounts
+pub fn capped_unstruck_of(book: &[u64], category: u64) -> Amounts
     requires { ⌜ CountsWithin (now book) ⌝ }
     ensures { λ r. ⌜ r ≡ bySides (λ s. capped (unstruckOf (now (book .entry)) category s)) ⌝ }
 {
@@ -129,7 +140,7 @@ fn share_in(category: u64, e: Element) -> Amounts
 }
 
 // The shares in a category.
-pub fn shares_of(book: &[u64], category: u64) -> Amounts
+pub fn capped_shares_of(book: &[u64], category: u64) -> Amounts
     requires { ⌜ CountsWithin (now book) ⌝ }
     ensures { λ r. ⌜ r ≡ bySides (λ s. capped (sharesOf (now (book .entry)) category s)) ⌝ }
 {
@@ -147,7 +158,7 @@ pub fn shares_of(book: &[u64], category: u64) -> Amounts
 }
 
 // An element's activity, passengers as in P.
-fn mass_activity(e: Element) -> u64
+fn capped_mass_activity(e: Element) -> u64
     ensures { λ r. ⌜ r ≡ capped (massActivity e) ⌝ }
 {
     if e.code <= 2 {
@@ -169,7 +180,7 @@ fn entry_sums(book: &[u64]) -> Sums
     };
     let mut place = 0;
     while place < count {
-        sums = with_entry(sums, records::read_entry(book, place));
+        sums = capped_with_entry(sums, records::read_entry(book, place));
         place += 1;
     }
     sums
@@ -184,7 +195,7 @@ pub fn capped_sums(book: &[u64]) -> Sums
     let mut sums = entry_sums(book);
     let mut place = 0;
     while place < count {
-        sums = with_element(sums, records::read_element(book, place));
+        sums = capped_with_element(sums, records::read_element(book, place));
         place += 1;
     }
     sums
@@ -199,10 +210,10 @@ pub fn sums_of(book: &[u64]) -> Sums
 }
 
 // The sums with one entry more, capped.
-pub fn with_entry(sums: Sums, e: Entry) -> Sums
+pub fn capped_with_entry(sums: Sums, e: Entry) -> Sums
     ensures { λ r. ⌜ r ≡ capSums (withEntry sums e) ⌝ }
 {
-    let added = unstruck(e);
+    let added = unstruck_amounts(e);
     Sums {
         operation: add(sums.operation, added.operation),
         provision: add(sums.provision, added.provision),
@@ -211,14 +222,14 @@ pub fn with_entry(sums: Sums, e: Entry) -> Sums
 }
 
 // The sums with one element more, capped.
-pub fn with_element(sums: Sums, e: Element) -> Sums
+pub fn capped_with_element(sums: Sums, e: Element) -> Sums
     ensures { λ r. ⌜ r ≡ capSums (withElement sums e) ⌝ }
 {
     let quoted = share_in(0, e);
     Sums {
         operation: add(sums.operation, quoted.operation),
         provision: add(sums.provision, quoted.provision),
-        activity: add(sums.activity, mass_activity(e)),
+        activity: add(sums.activity, capped_mass_activity(e)),
     }
 }
 
@@ -226,5 +237,7 @@ pub fn with_element(sums: Sums, e: Element) -> Sums
 pub fn are_within(sums: Sums) -> bool
     ensures { λ r. ⌜ r ≡ withinLimits sums ⌝ }
 {
-    (sums.operation <= LARGEST) & (sums.provision <= LARGEST) & (sums.activity <= MOST_ACTIVITY)
+    (sums.operation <= MOST_EMISSIONS)
+        & (sums.provision <= MOST_EMISSIONS)
+        & (sums.activity <= MOST_ACTIVITY)
 }

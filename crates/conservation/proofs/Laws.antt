@@ -12,14 +12,16 @@ use Rattle.apportion.specs.Places.{oneIf, sumBelow}
 use Rattle.book_words.specs.Book.{elements, elementAt, isClosed}
 use Rattle.book_words.specs.Measures.{isChain, mostChains}
 use Rattle.book_words.specs.Soundness.{sound}
-use Rattle.book_words.specs.Totals.{Side, operation, provision, shareOf, sharesOf}
+use Rattle.book_words.specs.declared.totals.Side.{Side}
+use Rattle.book_words.specs.declared.totals.Side.the-variants.{Operation as operation, Provision as provision}
+use Rattle.book_words.specs.Totals.{shareOf, sharesOf}
 use Rattle.book_shares.specs.Shares.{exactOf}
 use Rattle.book.specs.Calls.{openReply, postReply, enrolReply, quoteReply}
 use Rattle.book.specs.Statements.{statementReply, statementOf, elementsOn, waitingOn, sharesOn, ofChain, waits}
 use Rattle.apportion.proofs.Grounds.{either}
 use Rattle.apportion.proofs.Sums.{sum-cong}
 use Rattle.book_words.proofs.Booleans.{and-both}
-use Rattle.book_words.proofs.Handed.{category-inside, open-shares, shares-all, shares-by-chain}
+use Rattle.book_words.proofs.ShareSums.{category-inside, open-shares, shares-all, shares-by-chain}
 use Rattle.book.proofs.Laws.{fresh-accepted, fresh-sound, open-sound, open-refused, post-sound, post-refused, strike-sound, strike-refused}
 use Rattle.book.proofs.Laws.{open-added, post-added, strike-struck, enrol-added, quote-added, close-closed}
 use Rattle.book.proofs.Laws.{enrol-sound, enrol-refused, quote-sound, quote-refused, close-sound, close-refused, statement-accepted}
@@ -28,11 +30,11 @@ use Rattle.conservation.specs.declared.Call.the-variants.{Open, Post, St
 use Rattle.conservation.specs.Conserved.{gets, chainOf, waitsIn, chainGets, statementIn, quotedOn, statedOn, emissions, exactIn, Conserved, Conservation}
 use Rattle.conservation.specs.Runs.{Run, step, next, after, runOf}
 use Rattle.conservation.specs.Tally.{Enrolment, Quotation, enrolled, quoted, numbered, closedIn, feed}
-use Rattle.conservation.proofs.Near.{Near, near-fresh, near-open, near-post, near-strike, near-enrol, near-quote, near-close}
-use Rattle.conservation.proofs.Reading.{enrolmentOf, quotationOf, tallyOf, closed-read, fresh-read, step-read}
-use Rattle.conservation.proofs.Agreement.{read-enrolled, read-quoted, chain-read, elements-sum, element-told, exact-read}
-use Rattle.conservation.proofs.Agreement.{waits-read, closed-sum, quoted-sum}
-pub use Rattle.conservation.proofs.Listing.{numbered-each}
+use Rattle.conservation.proofs.NearExact.{Near, near-fresh, near-open, near-post, near-strike, near-enrol, near-quote, near-close}
+use Rattle.conservation.proofs.BookAsTally.{enrolmentOf, quotationOf, tallyOf, closed-read, fresh-read, step-read}
+use Rattle.conservation.proofs.TallySums.{read-enrolled, read-quoted, chain-read, elements-sum, element-told, exact-read}
+use Rattle.conservation.proofs.TallySums.{waits-read, closed-sum, quoted-sum}
+pub use Rattle.conservation.proofs.TallyLists.{numbered-each}
 
 -- a sound book whose closed categories' shares are near, with the tally that it is read as
 module _ (ws : List ℕ) (fine : sound ws ≡ true) where

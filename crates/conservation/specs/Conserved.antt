@@ -1,5 +1,5 @@
--- Demand 3: "Demand 3 takes the elements of a chain or category, and what is accepted, struck or closed, from the tally after
--- the list." Assumes nothing.
+-- Demand 3, which begins: "The emissions of a book are all handed out, and none twice." By document 01, "Demand 3 takes the elements
+-- of a chain or category, and what is accepted, struck or closed, from the tally after the list." Assumes nothing.
 use mathlib.Core.Bool.{Bool, true, false, cond, not, _&&_}
 use mathlib.Core.List.{List, [], _∷_}
 use mathlib.Core.Option.{some}
@@ -11,11 +11,13 @@ use Rattle.apportion.specs.Nearness.{Within}
 use Rattle.apportion.specs.Places.{sumBelow, oneIf}
 use Rattle.book_words.specs.Book.{bookLength, elementAt}
 use Rattle.book_words.specs.Measures.{headsByMass, mostChains}
-use Rattle.book_words.specs.Totals.{Side, operation, provision, shareOf}
-use Rattle.book_shares.specs.declared.weights.Takers.{Takers}
-use Rattle.book_shares.specs.declared.weights.Takers.the-variants.{Freight, Passengers, Group}
+use Rattle.book_words.specs.declared.totals.Side.{Side}
+use Rattle.book_words.specs.declared.totals.Side.the-variants.{Operation as operation, Provision as provision}
+use Rattle.book_words.specs.Totals.{shareOf}
+use Rattle.book_shares.specs.declared.weights.Recipients.{Recipients}
+use Rattle.book_shares.specs.declared.weights.Recipients.the-variants.{Freight, Passengers, Group}
 use Rattle.book_shares.specs.Shares.{Fraction, exactShare}
-use Rattle.book_shares.specs.Sums.{takes}
+use Rattle.book_shares.specs.Sums.{ifRecipient}
 use Rattle.book.specs.declared.replies.Statement.{Statement}
 use Rattle.book.specs.Calls.{freshRefusal}
 use Rattle.book.specs.Statements.{statementReply}
@@ -54,7 +56,7 @@ waitsIn t (quoted q) = false
 abbrev pub chainGets : Tally → List ℕ → ℕ → Side → ℕ
 chainGets t ws chain side = sumNumbered (t .elements) (λ k e. cond (eqb (chainOf e) chain) (gets ws k side) 0)
 
--- the statement that "adds its own chain's shares alone"
+-- the statement that "adds the shares of its own chain's elements and no others"
 abbrev pub statementIn : Tally → List ℕ → ℕ → Statement
 statementIn t ws chain =
     record {
@@ -67,9 +69,9 @@ statementIn t ws chain =
     }
 
 -- an amount of this side: an entry's, where it is not struck, a quote's and a statement's
-abbrev pub unstruckIn : Side → TallyEntry → ℕ
-unstruckIn operation e = cond (e .struck) 0 (e .operation)
-unstruckIn provision e = cond (e .struck) 0 (e .provision)
+abbrev pub unstruckOn : Side → TallyEntry → ℕ
+unstruckOn operation e = cond (e .struck) 0 (e .operation)
+unstruckOn provision e = cond (e .struck) 0 (e .provision)
 
 abbrev pub quotedOn : Side → Quotation → ℕ
 quotedOn operation q = q .operation
@@ -79,9 +81,10 @@ abbrev pub statedOn : Side → Statement → ℕ
 statedOn operation s = s .operation
 statedOn provision s = s .provision
 
--- "all emissions of closed categories and quotes": what an entry adds to them, what an element does, and their sum
+-- "the sum of quantity times factor over the accepted entries that are not struck and whose category is closed, plus the amounts that
+-- document 01 defines for the accepted quotes": what an entry adds, what an element does, and the sum of a side
 abbrev pub entryEmissions : Tally → Side → TallyEntry → ℕ
-entryEmissions t side e = cond (closedIn t (e .category)) (unstruckIn side e) 0
+entryEmissions t side e = cond (closedIn t (e .category)) (unstruckOn side e) 0
 
 abbrev pub elementEmissions : Side → TallyElement → ℕ
 elementEmissions side (enrolled e) = 0
@@ -94,17 +97,17 @@ emissions t side =
 -- "The A, B, F, P, C and S of its exact shares are sums over the tally too.": A and B are the pools of groups 0, 1 and 2
 unfoldable pub poolIn : Tally → ℕ → ℕ → Side → ℕ
 poolIn t category group side =
-    sumOver (t .entries) (λ e. cond (eqb (e .category) category) (cond (eqb (e .group) group) (unstruckIn side e) 0) 0)
+    sumOver (t .entries) (λ e. cond (eqb (e .category) category) (cond (eqb (e .group) group) (unstruckOn side e) 0) 0)
 
--- what an enrolment in the category, with a code that these takers have, measures; 0 for any other element
-abbrev pub amongIn : ℕ → Takers → (Enrolment → ℕ) → TallyElement → ℕ
-amongIn category takers measure (enrolled e) =
-    cond (eqb (e .arguments .category) category && takes takers (e .arguments .code)) (measure e) 0
-amongIn category takers measure (quoted q) = 0
+-- what an enrolment in the category, with the code of these recipients, measures; 0 for any other element
+abbrev pub amongIn : ℕ → Recipients → (Enrolment → ℕ) → TallyElement → ℕ
+amongIn category recipients measure (enrolled e) =
+    cond (eqb (e .arguments .category) category) (ifRecipient recipients (e .arguments .code) (measure e)) 0
+amongIn category recipients measure (quoted q) = 0
 
 -- "F is the freight activity", "C is the passengers' activity", and S is a group's "activity"
-unfoldable pub activityIn : Tally → ℕ → Takers → ℕ
-activityIn t category takers = sumOver (t .elements) (amongIn category takers (λ e. e .activity))
+unfoldable pub activityIn : Tally → ℕ → Recipients → ℕ
+activityIn t category recipients = sumOver (t .elements) (amongIn category recipients (λ e. e .activity))
 
 -- an enrolment's passengers by mass
 abbrev pub byMassIn : Enrolment → ℕ
@@ -129,20 +132,24 @@ exactIn t side e =
 
 -- demand 3, sentence by sentence
 pub record Conserved (t : Tally) (ws : List ℕ) : Type 0 where
-  -- "each statement adds its own chain's shares alone"; each is accepted
+  -- "Each statement adds the shares of its own chain's elements and no others." Each is accepted
   pub each-statement : (chain : ℕ) → 1 ≤ chain → chain ≤ mostChains → statementReply ws chain ≡ statementIn t ws chain
-  -- "all emissions of closed categories and quotes are handed out, none twice"
+  -- "Operation emissions, added over the statements of chains 1 to 10,000, equal the sum of quantity times factor over the accepted
+  -- entries that are not struck and whose category is closed, plus the amounts that document 01 defines for the accepted quotes.
+  -- Provision emissions do likewise."
   pub all-handed-out : (side : Side) → sumBelow mostChains (λ p. statedOn side (statementReply ws (p + 1))) ≡ emissions t side
-  -- "every share of a closed category is less than 3 micrograms from its exact fraction"
+  -- "Every element of a closed category gets less than 3 micrograms more or less than its exact share, a fraction that document 01
+  -- defines, for operation and for provision."
   pub closed-near : (k : ℕ) (e : Enrolment) → numbered (t .elements) k ≡ some (enrolled e) → closedIn t (e .arguments .category) ≡ true
       → (side : Side) → Within 3 (gets ws k side) (exactIn t side e .numerator) (exactIn t side e .denominator)
-  -- "quoted elements hold exactly their amounts,"
+  -- "Every quoted element gets exactly its two amounts,"
   pub quoted-exact : (k : ℕ) (q : Quotation) → numbered (t .elements) k ≡ some (quoted q) → (side : Side) → gets ws k side ≡ quotedOn side q
-  -- "open categories none."
+  -- "and every element of an open category gets none."
   pub open-none : (k : ℕ) (e : Enrolment) → numbered (t .elements) k ≡ some (enrolled e) → closedIn t (e .arguments .category) ≡ false
       → (side : Side) → gets ws k side ≡ 0
 
--- "One theorem over whole lists": an accepted fresh on any words that have room for a book, then any calls
+-- "For every list of opens, posts, strikes, enrolments, quotes and closings from a fresh book, refused ones included, this holds
+-- after it." The fresh is accepted on any words that have room for a book
 abbrev pub Conservation : Type 0
 Conservation =
     (words : List ℕ) → bookLength ≤ length words → (calls : List Call)

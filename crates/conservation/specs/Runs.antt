@@ -2,7 +2,7 @@
 use mathlib.Core.List.{List, [], _∷_}
 use Prim.Native.Nat.{ℕ}
 use Rattle.book.specs.declared.replies.Reply.{Reply}
-use Rattle.book.specs.Calls.{freshBook, openReply, openBook, postReply, postBook, strikeRefusal, strikeBook, enrolReply, enrolBook, quoteReply, quoteBook}
+use Rattle.book.specs.Calls.{refusalAlone, freshBook, openReply, openBook, postReply, postBook, strikeRefusal, strikeBook, enrolReply, enrolBook, quoteReply, quoteBook}
 use Rattle.book_shares.specs.Closing.{closeRefusal, closeBook}
 use Rattle.conservation.specs.declared.Call.{Call}
 use Rattle.conservation.specs.declared.Call.the-variants.{Open, Post, Strike, Enrol, Quote, Close}
@@ -12,10 +12,6 @@ use Rattle.conservation.specs.Tally.{Tally, emptyTally, feed}
 pub record Step : Type 0 where
   pub reply : Reply
   pub book : List ℕ
-
--- "fresh, strike and close return nothing more" than the refusal number
-abbrev pub refusalAlone : ℕ → Reply
-refusalAlone refusal = record { refusal = refusal; number = 0 }
 
 -- a call; the contract of `perform` is that it answers and leaves this
 abbrev pub step : List ℕ → Call → Step

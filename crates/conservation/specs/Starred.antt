@@ -6,7 +6,9 @@ use lib.ListN.{length, replicate}
 use Rattle.apportion.specs.Dividing.{sharesAfter}
 use Rattle.apportion.specs.Places.{listBelow, sumOf}
 use Rattle.book_words.specs.Book.{bookLength, elements, elementAt}
-use Rattle.book_words.specs.Totals.{Side, operation, provision, shareOf}
+use Rattle.book_words.specs.declared.totals.Side.{Side}
+use Rattle.book_words.specs.declared.totals.Side.the-variants.{Operation as operation, Provision as provision}
+use Rattle.book_words.specs.Totals.{shareOf}
 use Rattle.conservation.specs.declared.Call.{Call}
 use Rattle.conservation.specs.declared.Call.the-variants.{Open, Post, Enrol, Quote, Close}
 use Rattle.conservation.specs.Conserved.{emissions}
@@ -25,7 +27,7 @@ allShares ws side = listBelow (elements ws) (λ p. shareOf side (elementAt ws p)
 abbrev pub runFrom : List Call → Run
 runFrom made = runOf (replicate bookLength 0) made
 
--- the shares that are reckoned: those that the dividing rule writes, over sevens, or those of the elements after the calls
+-- the shares that are reckoned: those that the dividing rule writes into a slice of sevens, or those of the elements after the calls
 abbrev pub reckoned : Case → Side → List ℕ
 reckoned (division amount weights) side = sharesAfter amount weights (replicate (length weights) 7)
 reckoned (callsMade made) side = allShares (runFrom made .book) side
@@ -35,88 +37,105 @@ abbrev pub toHandOut : Case → Side → ℕ
 toHandOut (division amount weights) side = amount
 toHandOut (callsMade made) side = emissions (runFrom made .tally) side
 
+-- a row holds what is expected of operation and of provision apart
 pub record Row : Type 0 where
   pub case : Case
-  pub shares : List ℕ
+  pub operation : List ℕ
+  pub provision : List ℕ
 
-abbrev pub row : Case → List ℕ → Row
-row case shares = record { case = case; shares = shares }
+abbrev pub row : Case → List ℕ → List ℕ → Row
+row case onOperation onProvision = record { case = case; operation = onOperation; provision = onProvision }
 
--- a post to category 1 whose factors are 1
-abbrev post : ℕ → ℕ → Call
-post group quantity =
+-- a division by itself has no sides: the same shares are expected on both
+abbrev divisionRow : ℕ → List ℕ → List ℕ → Row
+divisionRow amount weights shares = row (division amount weights) shares shares
+
+-- a post to category 1: group, quantity, operation factor, provision factor
+abbrev postCall : ℕ → ℕ → ℕ → ℕ → Call
+postCall group quantity operationFactor provisionFactor =
     Post
     (record {
       category = 1;
       group = group;
       quantity = quantity;
-      «operation_factor» = 1;
-      «provision_factor» = 1;
+      «operation_factor» = operationFactor;
+      «provision_factor» = provisionFactor;
     })
 
--- an enrolment in category 1 over 1 m
-abbrev enrol : ℕ → ℕ → ℕ → Call
-enrol chain code amount =
+-- an enrolment in category 1 over 1 m: chain, code, amount
+abbrev enrolCall : ℕ → ℕ → ℕ → Call
+enrolCall chain code amount =
     Enrol (record { category = 1; chain = chain; code = code; amount = amount; distance = 1 })
 
--- a quote for chain 1 whose intensities are the same
-abbrev quote : ℕ → ℕ → ℕ → ℕ → Call
-quote adjust mass distance intensity =
+-- a quote for chain 1: adjust, mass, distance, operation intensity, provision intensity
+abbrev quoteCall : ℕ → ℕ → ℕ → ℕ → ℕ → Call
+quoteCall adjust mass distance operationIntensity provisionIntensity =
     Quote
     (record {
       chain = 1;
       adjust = adjust;
       mass = mass;
       distance = distance;
-      «operation_intensity» = intensity;
-      «provision_intensity» = intensity;
+      «operation_intensity» = operationIntensity;
+      «provision_intensity» = provisionIntensity;
     })
 
--- Both factors of a post, and both intensities of a quote, are the same here, so that the shares are those of operation and of
--- provision.
+-- Document 01's numbers are those of operation. Where the factors or the intensities of provision are others, its shares are reckoned
+-- by hand beside the row.
 abbrev pub starred : List Row
 starred =
     -- "*10 over 1,1,1: 4,3,3. *10 over 1,2,4: 1,3,6. *1 over 1,1: 1,0. *2 over 1,1,1,1: 1,1,0,0. *0 over 5: 0."
-    row (division 10 (1 ∷ 1 ∷ 1 ∷ [])) (4 ∷ 3 ∷ 3 ∷ [])
-    ∷ row (division 10 (1 ∷ 2 ∷ 4 ∷ [])) (1 ∷ 3 ∷ 6 ∷ [])
-    ∷ row (division 1 (1 ∷ 1 ∷ [])) (1 ∷ 0 ∷ [])
-    ∷ row (division 2 (1 ∷ 1 ∷ 1 ∷ 1 ∷ [])) (1 ∷ 1 ∷ 0 ∷ 0 ∷ [])
-    ∷ row (division 0 (5 ∷ [])) (0 ∷ [])
+    divisionRow 10 (1 ∷ 1 ∷ 1 ∷ []) (4 ∷ 3 ∷ 3 ∷ [])
+    ∷ divisionRow 10 (1 ∷ 2 ∷ 4 ∷ []) (1 ∷ 3 ∷ 6 ∷ [])
+    ∷ divisionRow 1 (1 ∷ 1 ∷ []) (1 ∷ 0 ∷ [])
+    ∷ divisionRow 2 (1 ∷ 1 ∷ 1 ∷ 1 ∷ []) (1 ∷ 1 ∷ 0 ∷ 0 ∷ [])
+    ∷ divisionRow 0 (5 ∷ []) (0 ∷ [])
     -- "*Kind 3, A 9, freight activity 100, one head each of codes 100 and 400 over 1 m: 3, 1, 5."
+    -- Provision: A 27 over F 100 and P 200 is 9 and 18; 18 over 100 and 400 is 3 and 14, and the unit left over goes to the first
     ∷ row
     (callsMade
     (Open 3
-    ∷ post 0 9
-    ∷ enrol 1 0 100
-    ∷ enrol 2 100 1
-    ∷ enrol 3 400 1
+    ∷ postCall 0 9 1 3
+    ∷ enrolCall 1 0 100
+    ∷ enrolCall 2 100 1
+    ∷ enrolCall 3 400 1
     ∷ Close 1
     ∷ []))
     (3 ∷ 1 ∷ 5 ∷ [])
+    (9 ∷ 4 ∷ 14 ∷ [])
     -- "*A 8, B1 5, ambient 100, chilled 300: 2 and 11."
+    -- Provision: A 16 over 100 and 300 is 4 and 12, and B1 5 is the chilled element's
     ∷ row
     (callsMade
     (Open 1
-    ∷ post 0 8
-    ∷ post 1 5
-    ∷ enrol 1 0 100
-    ∷ enrol 2 1 300
+    ∷ postCall 0 8 1 2
+    ∷ postCall 1 5 1 1
+    ∷ enrolCall 1 0 100
+    ∷ enrolCall 2 1 300
     ∷ Close 1
     ∷ []))
     (2 ∷ 11 ∷ [])
+    (4 ∷ 17 ∷ [])
     -- "*Quote 1, 500 kg, 1 m: 1."
-    ∷ row (callsMade (quote 0 500 1 1 ∷ [])) (1 ∷ [])
+    -- Provision: intensity 5 is 2.5, halves up
+    ∷ row (callsMade (quoteCall 0 500 1 1 5 ∷ [])) (1 ∷ []) (3 ∷ [])
     -- "*Quote 600000, adjust 1, 1000 kg, 905,000 m: 600,000,000,000."
-    ∷ row (callsMade (quote 1 1000 905_000 600_000 ∷ [])) (600_000_000_000 ∷ [])
+    -- Provision: the same intensity
+    ∷ row (callsMade (quoteCall 1 1000 905_000 600_000 600_000 ∷ [])) (600_000_000_000 ∷ []) (600_000_000_000 ∷ [])
     ∷ []
 
--- a row is as it was reckoned by hand, and its shares are all that there is to hand out, on both sides
+-- the shares that a row expects on a side
+abbrev pub expected : Row → Side → List ℕ
+expected r operation = r .operation
+expected r provision = r .provision
+
+-- on this side a row is as it was reckoned by hand, and its shares are all that there is to hand out
+abbrev pub HoldsOn : Row → Side → Type 0
+HoldsOn r side = (reckoned (r .case) side ≡ expected r side) × (toHandOut (r .case) side ≡ sumOf (expected r side))
+
+-- a row holds on both sides
 abbrev pub Holds : Row → Type 0
-Holds r =
-    (reckoned (r .case) operation ≡ r .shares)
-    × (reckoned (r .case) provision ≡ r .shares)
-    × (toHandOut (r .case) operation ≡ sumOf (r .shares))
-    × (toHandOut (r .case) provision ≡ sumOf (r .shares))
+Holds r = HoldsOn r operation × HoldsOn r provision
 
 -- every row holds
 abbrev pub EveryRow : List Row → Type 0

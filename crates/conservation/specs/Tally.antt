@@ -6,7 +6,7 @@ use mathlib.Core.Option.{Option, none, some}
 use Prim.Native.Nat.{ℕ, zero, suc}
 use Rattle.apportion.specs.Grounds.{accepted}
 use Rattle.book_words.specs.Measures.{activityOf}
-use Rattle.book_words.specs.Totals.{operation, provision}
+use Rattle.book_words.specs.declared.totals.Side.the-variants.{Operation as operation, Provision as provision}
 use Rattle.book.specs.Calls.{postedAmount, quotedAmount}
 use Rattle.book.specs.declared.arguments.EnrolArguments.{EnrolArguments}
 use Rattle.book.specs.declared.arguments.PostArguments.{PostArguments}
@@ -57,11 +57,11 @@ numbered (x ∷ xs) (suc zero) = some x
 numbered (x ∷ xs) (suc (suc n)) = numbered xs (suc n)
 
 -- the records with the one of this number changed
-abbrev pub changed : {A : Type 0} → (A → A) → List A → ℕ → List A
-changed f [] number = []
-changed f (x ∷ xs) zero = x ∷ xs
-changed f (x ∷ xs) (suc zero) = f x ∷ xs
-changed f (x ∷ xs) (suc (suc n)) = x ∷ changed f xs (suc n)
+abbrev pub changedAt : {A : Type 0} → (A → A) → List A → ℕ → List A
+changedAt f [] number = []
+changedAt f (x ∷ xs) zero = x ∷ xs
+changedAt f (x ∷ xs) (suc zero) = f x ∷ xs
+changedAt f (x ∷ xs) (suc (suc n)) = x ∷ changedAt f xs (suc n)
 
 -- a category's kind; 0 where there is no such category, which no accepted call names
 abbrev pub kindOf : Option TallyCategory → ℕ
@@ -116,16 +116,16 @@ markStruck e =
 
 abbrev pub tallyStrike : Tally → ℕ → Tally
 tallyStrike t entry =
-    record { categories = t .categories; entries = changed markStruck (t .entries) entry; elements = t .elements }
+    record { categories = t .categories; entries = changedAt markStruck (t .entries) entry; elements = t .elements }
 
 -- an element is added behind the others
-abbrev pub withElement : Tally → TallyElement → Tally
-withElement t e = record { categories = t .categories; entries = t .entries; elements = t .elements ++ (e ∷ []) }
+abbrev pub tallyAdd : Tally → TallyElement → Tally
+tallyAdd t e = record { categories = t .categories; entries = t .entries; elements = t .elements ++ (e ∷ []) }
 
 -- "An accepted enrolment adds an element with its arguments and activity."
 abbrev pub tallyEnrol : Tally → EnrolArguments → Tally
 tallyEnrol t e =
-    withElement t
+    tallyAdd t
     (enrolled
     (record {
       arguments = e;
@@ -136,7 +136,7 @@ tallyEnrol t e =
 -- under quote."
 abbrev pub tallyQuote : Tally → QuoteArguments → Tally
 tallyQuote t q =
-    withElement t
+    tallyAdd t
     (quoted (record { chain = q .chain; operation = quotedAmount operation q; provision = quotedAmount provision q }))
 
 -- "An accepted closing marks the category it names as closed."
@@ -145,7 +145,7 @@ markClosed c = record { kind = c .kind; closed = true }
 
 abbrev pub tallyClose : Tally → ℕ → Tally
 tallyClose t category =
-    record { categories = changed markClosed (t .categories) category; entries = t .entries; elements = t .elements }
+    record { categories = changedAt markClosed (t .categories) category; entries = t .entries; elements = t .elements }
 
 -- what an accepted call makes of the tally
 abbrev pub tallied : Tally → Call → Tally

@@ -1,7 +1,7 @@
-// Demand 3 of document 01: over every list of calls all emissions are handed out, none twice. A call is given as a value
-// here, so that lists of calls can be spoken of.
+// Demand 3: "The emissions of a book are all handed out, and none twice." Document 01 has its terms, under "Lists and the tally".
+// A call is given as a value here, so that lists of calls can be spoken of.
 ghost use mathlib.Core.Path.{_≡_};
-ghost use Rattle.conservation.specs.Runs.{refusalAlone, step};
+ghost use Rattle.conservation.specs.Runs.{step};
 use book::EnrolArguments;
 use book::PostArguments;
 use book::QuoteArguments;
@@ -29,16 +29,9 @@ pub fn perform(book: &mut [u64], call: Call) -> Reply
     match call {
         Call::Open(kind) => book::open(book, kind),
         Call::Post(p) => book::post(book, p),
-        Call::Strike(entry) => refusal_alone(book::strike(book, entry)),
+        Call::Strike(entry) => book::refusal_alone(book::strike(book, entry)),
         Call::Enrol(e) => book::enrol(book, e),
         Call::Quote(q) => book::quote(book, q),
-        Call::Close(category) => refusal_alone(book::close(book, category)),
+        Call::Close(category) => book::refusal_alone(book::close(book, category)),
     }
-}
-
-// The reply of a call that returns nothing but its refusal number.
-fn refusal_alone(refusal: u64) -> Reply
-    ensures { λ r. ⌜ r ≡ refusalAlone refusal ⌝ }
-{
-    Reply { refusal, number: 0 }
 }

@@ -1,2 +1,3 @@
--- Laws on plain values, for the proofs of this crate.
+-- What the proofs of this crate share.
+-- what is printed has room, and so is printed whole; an input that is too long
 mod Printing

@@ -1,4 +1,4 @@
--- What is printed has room, and so is printed whole. Assumes nothing.
+-- What is printed has room, and so is printed whole; what is printed for an input that is too long. Assumes nothing.
 use Prim.Native.Nat.{ℕ, _≤_, _<_}
 use native.Mathlib.Omega.{arith}
 use mathlib.Core.Bool.{true}
@@ -16,14 +16,16 @@ use Rattle.book_file.specs.declared.answers.Place.{Place}
 use Rattle.book_words.specs.Book.{bookLength}
 use Rattle.book_words.specs.Soundness.{sound}
 use Rattle.report.proofs.Laws.{sheet-fits, refused-fits, fitting-written, fitting-buffer}
-use Rattle.report.specs.Printing.{bytesWritten, answerFor, bufferWith}
+use Rattle.report.specs.Printing.{printedNumbers, answerFor, bufferWith}
+use Rattle.report.specs.Inner.Steps.{bytesWritten}
 use Rattle.report.specs.Sheet.{sheetText, sheetRoom, refusedText}
 use Rattle.report.specs.declared.printing.Printed.{Printed}
 use Rattle.quaymeter.specs.Program.{refusedLine, textFor, printedFrom}
 
 -- a text that fits is printed whole
-pub whole-length : (text : List ℕ) (room : ℕ) {answer : Printed} → answer ≡ answerFor text room → length text ≤ room → bytesWritten answer ≡ length text
-whole-length text room is h = ap bytesWritten (is ∙ fitting-written text room h)
+pub whole-length : (text : List ℕ) (room : ℕ) {answer : Printed} → answer ≡ answerFor text room → length text ≤ room
+    → bytesWritten (printedNumbers answer) ≡ length text
+whole-length text room is h = ap (λ (a : Printed). bytesWritten (printedNumbers a)) (is ∙ fitting-written text room h)
 
 -- the sheet of a book, or the line of a refusal
 fits-for : (answer : Load) (book : List ℕ) → (answer ≡ Loaded → sound book ≡ true) → length (textFor answer book) ≤ sheetRoom

@@ -9,7 +9,8 @@ ghost use Rattle.book_file.specs.Answers.{placeNumbers};
 ghost use Rattle.book_file.specs.File.{mostBytes};
 ghost use Rattle.book_file.specs.Loading.{loadBook};
 ghost use Rattle.book_words.specs.Soundness.{sound};
-ghost use Rattle.report.specs.Printing.{bytesWritten, bufferWith};
+ghost use Rattle.report.specs.Printing.{printedNumbers, bufferWith};
+ghost use Rattle.report.specs.Inner.Steps.{bytesWritten};
 ghost use Rattle.report.specs.Sheet.{sheetText, sheetRoom};
 ghost use Rattle.quaymeter.specs.Program.{refusedLine, printedFrom, printed};
 use book_file::Load;
@@ -53,7 +54,7 @@ fn print_book(book: &[u64], out: &mut [u8]) -> usize
     ensures { λ r. ⌜ r ≡ length (sheetText (now (book .entry))) ⌝ }
     ensures { λ _. ⌜ now (out .exit) ≡ bufferWith (sheetText (now (book .entry))) (now (out .entry)) ⌝ }
 {
-    length_of(report::sheet_sound(book, out))
+    bytes_written(report::sheet_sound(book, out))
 }
 
 // Prints the line of a stop at a place.
@@ -63,12 +64,12 @@ fn print_refusal(number: u64, place: Place, out: &mut [u8]) -> usize
     ensures { λ _. ⌜ now (out .exit) ≡ bufferWith (refusedLine (placeNumbers number place)) (now (out .entry)) ⌝ }
 {
     let numbers = book_file::numbers_of(Load::Stopped(number, place));
-    length_of(report::refusal_line(numbers.refusal, numbers.table, numbers.record, out))
+    bytes_written(report::refusal_line(numbers.refusal, numbers.table, numbers.record, out))
 }
 
 // How many bytes are printed.
-fn length_of(answer: Printed) -> usize
-    ensures { λ r. ⌜ r ≡ bytesWritten answer ⌝ }
+fn bytes_written(answer: Printed) -> usize
+    ensures { λ r. ⌜ r ≡ bytesWritten (printedNumbers answer) ⌝ }
 {
     match answer {
         Printed::Written(count) => count,

@@ -20,11 +20,11 @@ use Rattle.conservation.proofs.Laws.{conserved as conserves, step-length}
 use Rattle.replay.specs.declared.records.Words.{Words}
 use Rattle.replay.specs.Answers.{callOf, answered}
 use Rattle.replay.specs.Conserving.{wordsIn, recordWords, isCall, leavesBook, areOfList, callsIn, Played, StartsList, ReplayConservation}
-use Rattle.replay.specs.Replay.{bad, lentCount, lentWords, called, dividedRun, changed, dumped, performed}
-use Rattle.replay.specs.Replay.{Run as ReplayRun}
-use Rattle.replay.specs.Stages.{recordBytes, Stage, onRun, counted, due, operated, handled, replayedOf, recordsIn, replayed}
+use Rattle.replay.specs.Replay.{bad, lentCount, lentWords, called, divisionDone, changed, dumped, performed}
+use Rattle.replay.specs.Replay.{Machine}
+use Rattle.replay.specs.Stages.{recordBytes, Stage, onMachine, counted, due, operated, handled, replayedOf, recordsIn, replayed}
 use Rattle.replay.specs.Words.{wordsOf}
-use Rattle.replay.proofs.Runs.{cond-through}
+use Rattle.replay.proofs.OperationTests.{cond-through}
 
 -- the words that a call leaves stand where the lent ones stood
 given-back : (n : ℕ) (memory book : List ℕ) → length book ≡ length (take n memory) → take n (book ++ drop n memory) ≡ book
@@ -35,7 +35,7 @@ given-back (suc n) [] (b ∷ bs) same = let z : ⊥ = omega arith in absurd z
 given-back (suc n) (m ∷ ms) [] same = let z : ⊥ = omega arith in absurd z
 given-back (suc n) (m ∷ ms) (b ∷ bs) same = ap (λ (xs : List ℕ). b ∷ xs) (given-back n ms bs (omega arith))
 
-either-lent : (ws : List ℕ) (test : Bool) (one other : ReplayRun) → lentWords one ≡ ws → lentWords other ≡ ws → lentWords (cond test one other) ≡ ws
+either-lent : (ws : List ℕ) (test : Bool) (one other : Machine) → lentWords one ≡ ws → lentWords other ≡ ws → lentWords (cond test one other) ≡ ws
 either-lent ws true one other of-one of-other = of-one
 either-lent ws false one other of-one of-other = of-other
 
@@ -48,17 +48,18 @@ unfolding freshRefusal
 fresh-long ws e = ltb-false (length ws) bookLength (none-holds (freshGrounds ws) refl e 1)
 
 -- what operations leave of the lent words
-module _ (words : Words) (file : List ℕ) (run : ReplayRun) where
+module _ (words : Words) (file : List ℕ) (machine : Machine) where
   abbrev left : List ℕ
-  left = lentWords (performed (words .operation) words file run)
+  left = lentWords (performed (words .operation) words file machine)
 
-  fresh-left : words .operation ≡ 1 → freshRefusal (lentWords run) ≡ 0 → left ≡ freshBook (lentWords run)
+  fresh-left : words .operation ≡ 1 → freshRefusal (lentWords machine) ≡ 0 → left ≡ freshBook (lentWords machine)
   unfolding performed called answered
   fresh-left is e =
       rw is
-      (given-back (lentCount run) (run .memory) (freshBook (lentWords run)) (fresh-made (lentWords run) (fresh-long (lentWords run) e) .same-length))
+      (given-back (lentCount machine) (machine .memory) (freshBook (lentWords machine))
+      (fresh-made (lentWords machine) (fresh-long (lentWords machine) e) .same-length))
 
-  call-left : isCall words ≡ true → left ≡ step (lentWords run) (callOf words) .book
+  call-left : isCall words ≡ true → left ≡ step (lentWords machine) (callOf words) .book
   unfolding performed called answered
   call-left is =
       let n = words .operation in
@@ -72,30 +73,30 @@ module _ (words : Words) (file : List ℕ) (run : ReplayRun) where
         ne-eqb n 9 (λ e. omega arith),
         ne-eqb n 15 (λ e. omega arith),
       )
-      (given-back (lentCount run) (run .memory) (step (lentWords run) (callOf words) .book) (step-length (lentWords run) (callOf words)))
+      (given-back (lentCount machine) (machine .memory) (step (lentWords machine) (callOf words) .book) (step-length (lentWords machine) (callOf words)))
 
-  book-left : leavesBook words ≡ true → left ≡ lentWords run
-  unfolding performed called answered dividedRun changed dumped
+  book-left : leavesBook words ≡ true → left ≡ lentWords machine
+  unfolding performed called answered divisionDone changed dumped
   book-left is =
       let n = words .operation in
-      let same = given-back (lentCount run) (run .memory) (lentWords run) refl in
+      let same = given-back (lentCount machine) (machine .memory) (lentWords machine) refl in
       either-test (eqb n 8) _ is (λ e. rw (eqb-true n 8 e) same)
       (λ is. either-test (eqb n 9) _ is (λ e. rw (eqb-true n 9 e) same)
-      (λ is. either-test (eqb n 10) _ is (λ e. rw (eqb-true n 10 e) (either-lent (lentWords run) (leb (words .second) 300) _ _ refl refl))
+      (λ is. either-test (eqb n 10) _ is (λ e. rw (eqb-true n 10 e) (either-lent (lentWords machine) (leb (words .second) 300) _ _ refl refl))
       (λ is. either-test (eqb n 11) _ is
       (λ e. rw (eqb-true n 11 e)
-      (either-lent (lentWords run) (ltb (run .count) 300) _ _ (take-set-le (lentCount run) (run .memory) _ (words .first) (omega arith)) refl))
-      (λ e. rw (eqb-true n 14 e) (either-lent (lentWords run) (leb (words .first + words .second) 3000) _ _ refl refl)))))
+      (either-lent (lentWords machine) (ltb (machine .count) 300) _ _ (take-set-le (lentCount machine) (machine .memory) _ (words .first) (omega arith)) refl))
+      (λ e. rw (eqb-true n 14 e) (either-lent (lentWords machine) (leb (words .first + words .second) 3000) _ _ refl refl)))))
 
 -- a whole record of an operation that has no file, where none is on its way, is performed
 performs : (bytes : List ℕ) (stage : Stage) → stage .missing ≡ 0 → (wordsOf bytes .operation ≡ 15 → ⊥) → recordBytes ≤ length bytes
-    → handled bytes stage ≡ onRun (performed (wordsOf bytes .operation) (wordsOf bytes) (stage .file)) stage
+    → handled bytes stage ≡ onMachine (performed (wordsOf bytes .operation) (wordsOf bytes) (stage .file)) stage
 unfolding handled operated due
 performs bytes stage idle other whole =
     rw (le-ltb (length bytes) recordBytes whole, idle, ne-eqb (wordsOf bytes .operation) 15 other)
 
 -- a record that is cut short is bad
-uncut : (bytes : List ℕ) (stage : Stage) → handled bytes stage .run .good ≡ true → recordBytes ≤ length bytes
+uncut : (bytes : List ℕ) (stage : Stage) → handled bytes stage .machine .good ≡ true → recordBytes ≤ length bytes
 unfolding handled
 uncut bytes stage good = go (ltb (length bytes) recordBytes) refl (λ short. rw short at good)
   where
@@ -110,21 +111,21 @@ no-load words is e = let z : _≡_ {A = ℕ} 0 1 = cc (rw e at is) in omega arit
 -- the lent words are the book of a run of calls, and no file is on its way
 record Book (run : Run) (stage : Stage) : Type 0 where
   no-file : stage .missing ≡ 0
-  book-of-run : lentWords (stage .run) ≡ run .book
+  book-of-run : lentWords (stage .machine) ≡ run .book
 
 -- a record of a list makes its call, or leaves the book as it is
 record-played : (run : Run) (bytes : List ℕ) (stage : Stage) → Book run stage → isCall (wordsOf bytes) || leavesBook (wordsOf bytes) ≡ true
-    → handled bytes stage .run .good ≡ true → Book (cond (isCall (wordsOf bytes)) (next run (callOf (wordsOf bytes))) run) (handled bytes stage)
+    → handled bytes stage .machine .good ≡ true → Book (cond (isCall (wordsOf bytes)) (next run (callOf (wordsOf bytes))) run) (handled bytes stage)
 record-played run bytes stage before of-list good =
     let one = performs bytes stage (before .no-file) (no-load (wordsOf bytes) of-list) (uncut bytes stage good) in
     rw one (record { no-file = before .no-file; book-of-run = go (isCall (wordsOf bytes)) refl of-list })
   where
     go : (call : Bool) → isCall (wordsOf bytes) ≡ call → call || leavesBook (wordsOf bytes) ≡ true
-        → lentWords (performed (wordsOf bytes .operation) (wordsOf bytes) (stage .file) (stage .run))
+        → lentWords (performed (wordsOf bytes .operation) (wordsOf bytes) (stage .file) (stage .machine))
         ≡ cond call (next run (callOf (wordsOf bytes))) run .book
     go true is of-list =
-        call-left (wordsOf bytes) (stage .file) (stage .run) is ∙ ap (λ (ws : List ℕ). step ws (callOf (wordsOf bytes)) .book) (before .book-of-run)
-    go false is of-list = book-left (wordsOf bytes) (stage .file) (stage .run) of-list ∙ before .book-of-run
+        call-left (wordsOf bytes) (stage .file) (stage .machine) is ∙ ap (λ (ws : List ℕ). step ws (callOf (wordsOf bytes)) .book) (before .book-of-run)
+    go false is of-list = book-left (wordsOf bytes) (stage .file) (stage .machine) of-list ∙ before .book-of-run
 
 after-record : (call : Bool) (run : Run) (made : Call) (calls : List Call)
     → after (cond call (next run made) run) calls ≡ after run (cond call (made ∷ calls) calls)
@@ -132,21 +133,21 @@ after-record call run made calls =
     cond-through (λ (r : Run). after r calls) call (next run made) run ∙ sym (cond-through (after run) call (made ∷ calls) calls)
 
 -- records go on where none was bad
-unless-bad : (run : Run) (good : Bool) (one more : Stage) → one .run .good ≡ good → cond good more one .run .good ≡ true
-    → (one .run .good ≡ true → more .run .good ≡ true → Book run more) → Book run (cond good more one)
+unless-bad : (run : Run) (good : Bool) (one more : Stage) → one .machine .good ≡ good → cond good more one .machine .good ≡ true
+    → (one .machine .good ≡ true → more .machine .good ≡ true → Book run more) → Book run (cond good more one)
 unless-bad run true one more is fine on = on is fine
 unless-bad run false one more is fine on = let z : _≡_ {A = ℕ} 0 1 = cc in absurd (omega arith)
 
 -- so many records of a list
 plays : (left : ℕ) (run : Run) (bytes : List ℕ) (stage : Stage) → Book run stage → areOfList (wordsIn left bytes) ≡ true
-    → replayedOf left bytes stage .run .good ≡ true → Book (after run (callsIn (wordsIn left bytes))) (replayedOf left bytes stage)
+    → replayedOf left bytes stage .machine .good ≡ true → Book (after run (callsIn (wordsIn left bytes))) (replayedOf left bytes stage)
 plays zero run bytes stage before of-list good = before
 plays (suc n) run bytes stage before of-list good =
     let words = wordsOf bytes in
     let done = handled bytes (counted stage) in
     let rest = wordsIn n (drop recordBytes bytes) in
     let each = both (isCall words || leavesBook words) (areOfList rest) of-list in
-    unless-bad (after run (callsIn (words ∷ rest))) (done .run .good) done (replayedOf n (drop recordBytes bytes) done) refl good
+    unless-bad (after run (callsIn (words ∷ rest))) (done .machine .good) done (replayedOf n (drop recordBytes bytes) done) refl good
     (λ fine later.
     let one = record-played run bytes (counted stage) (record { no-file = before .no-file; book-of-run = before .book-of-run }) (each .0) fine in
     rw (← after-record (isCall words) run (callOf words) (callsIn rest))
@@ -171,8 +172,8 @@ played ws calls stage accepted book =
 pub starts-list : StartsList
 starts-list bytes stage whole is idle accepted =
     let one = performs bytes stage idle (λ z. omega arith) whole in
-    played (lentWords (stage .run)) [] (handled bytes stage) accepted
-    (rw one (record { no-file = idle; book-of-run = fresh-left (wordsOf bytes) (stage .file) (stage .run) is accepted }))
+    played (lentWords (stage .machine)) [] (handled bytes stage) accepted
+    (rw one (record { no-file = idle; book-of-run = fresh-left (wordsOf bytes) (stage .file) (stage .machine) is accepted }))
 
 -- Demand 3, of every list that is played from it.
 pub replay-conserved : ReplayConservation

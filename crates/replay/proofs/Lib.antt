@@ -1,7 +1,11 @@
--- Laws on plain values, for the proofs of this crate: `Putting` on the waiting bytes, `Decimals` on a number's digits, `Runs` on what
--- operations do, `Stages` on records one after the other; and `Laws`, demand 3 of the lists that are played.
+-- What the proofs of this crate share, and demand 3 of what it plays.
+-- the waiting bytes after a store, and after a text
 mod Putting
+-- a number's digits
 mod Decimals
-mod Runs
+-- what operations do
+mod OperationTests
+-- what records do, one after the other
 mod Stages
+-- demand 3 of the lists that are played
 mod Laws

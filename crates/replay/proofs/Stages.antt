@@ -14,13 +14,13 @@ use Rattle.book_words.proofs.Booleans.{cond-same}
 use Rattle.replay.specs.declared.records.Words.{Words}
 use Rattle.replay.specs.declared.state.State.{State}
 use Rattle.replay.specs.Replay.{bad, changed, performed}
-use Rattle.replay.specs.Stages.{recordBytes, fileRoom, Stage, stageOf, onRun, withFile, counted, due, taken, operated, handled, replayed, recordsIn}
-use Rattle.replay.proofs.Runs.{cond-through, take-first}
+use Rattle.replay.specs.Stages.{recordBytes, fileRoom, Stage, stageOf, onMachine, withFile, counted, due, taken, operated, handled, replayed, recordsIn}
+use Rattle.replay.proofs.OperationTests.{cond-through, take-first}
 
 -- a bad record, after which no operation is due
-pub due-none : (words : Words) (stage : Stage) → due 0 words (onRun bad stage) ≡ onRun bad stage
+pub due-none : (words : Words) (stage : Stage) → due 0 words (onMachine bad stage) ≡ onMachine bad stage
 unfolding due performed changed
-due-none words stage = cond-same (ltb 0 (stage .missing)) (onRun bad stage)
+due-none words stage = cond-same (ltb 0 (stage .missing)) (onMachine bad stage)
 
 -- the words of a record, where no byte of a file is missing: a file that is too long, a file that is to come, and any other
 module _ (words : Words) (stage : Stage) where
@@ -78,10 +78,10 @@ module _ (bytes : List ℕ) (stage next : Stage) (more : 0 < length bytes) (done
   one-record : recordsIn bytes ≡ suc (recordsIn (drop recordBytes bytes))
   one-record = rw length-drop (omega arith)
 
-  pub replay-on : next .run .good ≡ true → replayed (drop recordBytes bytes) next ≡ replayed bytes stage
+  pub replay-on : next .machine .good ≡ true → replayed (drop recordBytes bytes) next ≡ replayed bytes stage
   replay-on good = rw (one-record, ← done, good)
 
-  pub replay-stop : next .run .good ≡ false → next ≡ replayed bytes stage
+  pub replay-stop : next .machine .good ≡ false → next ≡ replayed bytes stage
   replay-stop ended = rw (one-record, ← done, ended)
 
   -- and one record more is counted

@@ -71,8 +71,8 @@ abbrev pub replyNumbers : ℕ → Reply → List ℕ
 replyNumbers operation reply = take (replyCount operation) (reply .refusal ∷ reply .number ∷ [])
 
 -- those of a statement, of an intensity and of a load
-abbrev pub statementNumbers : Statement → List ℕ
-statementNumbers s = s .refusal ∷ s .elements ∷ s .waiting ∷ s .operation ∷ s .provision ∷ s .total ∷ []
+abbrev pub statementReplyNumbers : Statement → List ℕ
+statementReplyNumbers s = s .refusal ∷ s .elements ∷ s .waiting ∷ s .operation ∷ s .provision ∷ s .total ∷ []
 
 abbrev pub intensityNumbers : Intensity → List ℕ
 intensityNumbers i = i .refusal ∷ i .operation ∷ i .provision ∷ []
@@ -95,7 +95,7 @@ answeredOf answer book = answering (take (answer .count) (answer .numbers)) book
 unfoldable pub answered : ℕ → Words → List ℕ → List ℕ → Answered
 answered operation words ws file =
     cond (eqb operation 1) (answering (freshRefusal ws ∷ []) (freshBook ws))
-    (cond (eqb operation 8) (answering (statementNumbers (statementReply ws (words .first))) ws)
+    (cond (eqb operation 8) (answering (statementReplyNumbers (statementReply ws (words .first))) ws)
     (cond (eqb operation 9) (answering (intensityNumbers (intensityReply ws (words .first) (words .second))) ws)
     (cond (eqb operation 15) (answering (fileNumbers (loadNumbers ws file)) (loadBook ws file))
     (answering (replyNumbers operation (step ws (callOf words) .reply)) (step ws (callOf words) .book)))))

@@ -51,20 +51,20 @@ callsIn (words ∷ rest) = cond (isCall words) (callOf words ∷ callsIn rest) (
 pub record Played (ws : List ℕ) (calls : List Call) (stage : Stage) : Type 0 where
   pub fresh-accepted : freshRefusal ws ≡ 0
   pub no-file : stage .missing ≡ 0
-  pub book-of-run : lentWords (stage .run) ≡ runOf ws calls .book
-  pub conserved : Conserved (runOf ws calls .tally) (lentWords (stage .run))
+  pub book-of-run : lentWords (stage .machine) ≡ runOf ws calls .book
+  pub conserved : Conserved (runOf ws calls .tally) (lentWords (stage .machine))
 
 -- "from a fresh book": a record of operation 1 that is accepted starts a list without calls
 abbrev pub StartsList : Type 0
 StartsList =
     (bytes : List ℕ) (stage : Stage)
-    → recordBytes ≤ length bytes → wordsOf bytes .operation ≡ 1 → stage .missing ≡ 0 → freshRefusal (lentWords (stage .run)) ≡ 0
-    → Played (lentWords (stage .run)) [] (handled bytes stage)
+    → recordBytes ≤ length bytes → wordsOf bytes .operation ≡ 1 → stage .missing ≡ 0 → freshRefusal (lentWords (stage .machine)) ≡ 0
+    → Played (lentWords (stage .machine)) [] (handled bytes stage)
 
 -- "For every list of opens, posts, strikes, enrolments, quotes and closings from a fresh book, refused ones included, this holds
 -- after it.": bytes whose records are such operations go on with a list, up to their end where no record is bad
 abbrev pub ReplayConservation : Type 0
 ReplayConservation =
     (ws : List ℕ) (calls : List Call) (bytes : List ℕ) (stage : Stage)
-    → Played ws calls stage → areOfList (recordWords bytes) ≡ true → replayed bytes stage .run .good ≡ true
+    → Played ws calls stage → areOfList (recordWords bytes) ≡ true → replayed bytes stage .machine .good ≡ true
     → Played ws (calls ++ callsIn (recordWords bytes)) (replayed bytes stage)

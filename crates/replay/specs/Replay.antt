@@ -22,16 +22,16 @@ room = 300
 
 -- what operations work on: the words of the book's array, and behind them the listed weights; how many weights are listed, and how
 -- many words of the array are lent to calls; the bytes that wait to be written; and that no record was bad
-pub record Run : Type 0 where
+pub record Machine : Type 0 where
   pub memory : List ℕ
   pub count : ℕ
   pub lent : ℕ
   pub waiting : List ℕ
   pub good : Bool
 
--- the run that the memory, the output buffer and the program's state hold
-abbrev pub runOf : List ℕ → List ℕ → State → Run
-runOf memory buffer state =
+-- the machine that the memory, the output buffer and the program's state hold
+abbrev pub machineOf : List ℕ → List ℕ → State → Machine
+machineOf memory buffer state =
     record {
       memory = memory;
       count = state .count;
@@ -41,49 +41,49 @@ runOf memory buffer state =
     }
 
 -- before the first record
-abbrev pub started : Run
+abbrev pub started : Machine
 started = record { memory = replicate (arrayLength + room) 0; count = 0; lent = arrayLength; waiting = []; good = true }
 
--- a run with one thing set anew
-abbrev pub withMemory : List ℕ → Run → Run
-withMemory memory run =
-    record { memory = memory; count = run .count; lent = run .lent; waiting = run .waiting; good = run .good }
+-- a machine with one thing set anew
+abbrev pub withMemory : List ℕ → Machine → Machine
+withMemory memory machine =
+    record { memory = memory; count = machine .count; lent = machine .lent; waiting = machine .waiting; good = machine .good }
 
-abbrev pub withCount : ℕ → Run → Run
-withCount count run =
-    record { memory = run .memory; count = count; lent = run .lent; waiting = run .waiting; good = run .good }
+abbrev pub withCount : ℕ → Machine → Machine
+withCount count machine =
+    record { memory = machine .memory; count = count; lent = machine .lent; waiting = machine .waiting; good = machine .good }
 
-abbrev pub withLent : ℕ → Run → Run
-withLent lent run =
-    record { memory = run .memory; count = run .count; lent = lent; waiting = run .waiting; good = run .good }
+abbrev pub withLent : ℕ → Machine → Machine
+withLent lent machine =
+    record { memory = machine .memory; count = machine .count; lent = lent; waiting = machine .waiting; good = machine .good }
 
-abbrev pub withWaiting : List ℕ → Run → Run
-withWaiting waiting run =
-    record { memory = run .memory; count = run .count; lent = run .lent; waiting = waiting; good = run .good }
+abbrev pub withWaiting : List ℕ → Machine → Machine
+withWaiting waiting machine =
+    record { memory = machine .memory; count = machine .count; lent = machine .lent; waiting = waiting; good = machine .good }
 
 -- a bad record changes nothing else
-abbrev pub bad : Run → Run
-bad run = record { memory = run .memory; count = run .count; lent = run .lent; waiting = run .waiting; good = false }
+abbrev pub bad : Machine → Machine
+bad machine = record { memory = machine .memory; count = machine .count; lent = machine .lent; waiting = machine .waiting; good = false }
 
 -- a text is put behind the waiting bytes
-abbrev pub printed : List ℕ → Run → Run
-printed text run = withWaiting (put (run .waiting) text) run
+abbrev pub withText : List ℕ → Machine → Machine
+withText text machine = withWaiting (put (machine .waiting) text) machine
 
 -- how many words are lent, of those that the array has, and the lent words
-abbrev pub lentCount : Run → ℕ
-lentCount run = min (run .lent) arrayLength
+abbrev pub lentCount : Machine → ℕ
+lentCount machine = min (machine .lent) arrayLength
 
-abbrev pub lentWords : Run → List ℕ
-lentWords run = take (lentCount run) (run .memory)
+abbrev pub lentWords : Machine → List ℕ
+lentWords machine = take (lentCount machine) (machine .memory)
 
--- the run after a call with this answer; the words that were not lent are as before
-abbrev pub returned : Answered → Run → Run
-returned answer run =
-    printed (numbersLine (answer .numbers)) (withMemory (answer .book ++ drop (lentCount run) (run .memory)) run)
+-- the machine after a call with this answer; the words that were not lent are as before
+abbrev pub returned : Answered → Machine → Machine
+returned answer machine =
+    withText (numbersLine (answer .numbers)) (withMemory (answer .book ++ drop (lentCount machine) (machine .memory)) machine)
 
 -- operations 1 to 9 and 15: a call on the lent words, or a load of the file
-unfoldable pub called : ℕ → Words → List ℕ → Run → Run
-called operation words file run = returned (answered operation words (lentWords run) file) run
+unfoldable pub called : ℕ → Words → List ℕ → Machine → Machine
+called operation words file machine = returned (answered operation words (lentWords machine) file) machine
 
 -- the numbers of a division over the weights into shares: the refusal number, and the shares after the call
 abbrev pub division : ℕ → List ℕ → List ℕ → List ℕ
@@ -91,45 +91,45 @@ division pool weights shares =
     refusal pool (length weights) (length shares) (sumOf weights) ∷ sharesAfter pool weights shares
 
 -- operation 10: a division over the listed weights, of which there are at most `room`, into `size` shares, each of which is 7 before
-unfoldable pub dividedRun : ℕ → ℕ → Run → Run
-dividedRun pool size run =
+unfoldable pub divisionDone : ℕ → ℕ → Machine → Machine
+divisionDone pool size machine =
     cond (leb size room)
     (withCount 0
-    (printed (numbersLine (division pool (take (min (run .count) room) (drop arrayLength (run .memory))) (replicate size 7))) run))
-    (bad run)
+    (withText (numbersLine (division pool (take (min (machine .count) room) (drop arrayLength (machine .memory))) (replicate size 7))) machine))
+    (bad machine)
 
 -- operation 11: a weight is listed, where there is room
-abbrev pub listed : ℕ → Run → Run
-listed weight run =
-    cond (ltb (run .count) room)
-    (withCount (run .count + 1) (withMemory (set (run .memory) (arrayLength + run .count) weight) run))
-    (bad run)
+abbrev pub listed : ℕ → Machine → Machine
+listed weight machine =
+    cond (ltb (machine .count) room)
+    (withCount (machine .count + 1) (withMemory (set (machine .memory) (arrayLength + machine .count) weight) machine))
+    (bad machine)
 
 -- operation 12: a word of the array is written
-abbrev pub poked : ℕ → ℕ → Run → Run
-poked index value run = cond (ltb index arrayLength) (withMemory (set (run .memory) index value) run) (bad run)
+abbrev pub poked : ℕ → ℕ → Machine → Machine
+poked index value machine = cond (ltb index arrayLength) (withMemory (set (machine .memory) index value) machine) (bad machine)
 
 -- operation 13: the first `count` words are lent from now on
-abbrev pub lentRun : ℕ → Run → Run
-lentRun count run = cond (leb count arrayLength) (withLent count run) (bad run)
+abbrev pub lentAnew : ℕ → Machine → Machine
+lentAnew count machine = cond (leb count arrayLength) (withLent count machine) (bad machine)
 
 -- operations 11 to 13, which print nothing; any other is bad
-unfoldable pub changed : ℕ → Words → Run → Run
-changed operation words run =
-    cond (eqb operation 11) (listed (words .first) run)
-    (cond (eqb operation 12) (poked (words .first) (words .second) run)
-    (cond (eqb operation 13) (lentRun (words .first) run)
-    (bad run)))
+unfoldable pub changed : ℕ → Words → Machine → Machine
+changed operation words machine =
+    cond (eqb operation 11) (listed (words .first) machine)
+    (cond (eqb operation 12) (poked (words .first) (words .second) machine)
+    (cond (eqb operation 13) (lentAnew (words .first) machine)
+    (bad machine)))
 
 -- operation 14: `count` words are printed, those from `start` on
-unfoldable pub dumped : ℕ → ℕ → Run → Run
-dumped start count run =
-    cond (leb (start + count) arrayLength) (printed (numbersLine (take count (drop start (run .memory)))) run) (bad run)
+unfoldable pub dumped : ℕ → ℕ → Machine → Machine
+dumped start count machine =
+    cond (leb (start + count) arrayLength) (withText (numbersLine (take count (drop start (machine .memory)))) machine) (bad machine)
 
 -- what an operation does with the words of its record, 15 with the bytes of its file
-unfoldable pub performed : ℕ → Words → List ℕ → Run → Run
-performed operation words file run =
-    cond ((leb 1 operation && leb operation 9) || eqb operation 15) (called operation words file run)
-    (cond (eqb operation 10) (dividedRun (words .first) (words .second) run)
-    (cond (eqb operation 14) (dumped (words .first) (words .second) run)
-    (changed operation words run)))
+unfoldable pub performed : ℕ → Words → List ℕ → Machine → Machine
+performed operation words file machine =
+    cond ((leb 1 operation && leb operation 9) || eqb operation 15) (called operation words file machine)
+    (cond (eqb operation 10) (divisionDone (words .first) (words .second) machine)
+    (cond (eqb operation 14) (dumped (words .first) (words .second) machine)
+    (changed operation words machine)))

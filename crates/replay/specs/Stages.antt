@@ -10,7 +10,7 @@ use Rattle.replay.specs.declared.records.Words.{Words}
 use Rattle.replay.specs.declared.state.State.{State}
 use Rattle.replay.specs.Words.{wordsOf}
 use Rattle.replay.specs.Text.{badLine}
-use Rattle.replay.specs.Replay.{Run, runOf, started, bad, printed, performed}
+use Rattle.replay.specs.Replay.{Machine, machineOf, started, bad, withText, performed}
 
 -- the bytes of a record
 abbrev pub recordBytes : ℕ
@@ -20,9 +20,9 @@ recordBytes = 64
 abbrev pub fileRoom : ℕ
 fileRoom = mostBytes + recordBytes
 
--- the run; a file that is on its way, the bytes that have come and how many are to come; and how many records have been handled
+-- the machine; a file that is on its way, the bytes that have come and how many are to come; and how many records have been handled
 pub record Stage : Type 0 where
-  pub run : Run
+  pub machine : Machine
   pub file : List ℕ
   pub missing : ℕ
   pub passed : ℕ
@@ -31,7 +31,7 @@ pub record Stage : Type 0 where
 abbrev pub stageOf : List ℕ → List ℕ → List ℕ → State → Stage
 stageOf memory file buffer state =
     record {
-      run = runOf memory buffer state;
+      machine = machineOf memory buffer state;
       file = take (state .come) file;
       missing = state .missing;
       passed = state .passed;
@@ -39,23 +39,23 @@ stageOf memory file buffer state =
 
 -- before the first record
 abbrev pub firstStage : Stage
-firstStage = record { run = started; file = []; missing = 0; passed = 0 }
+firstStage = record { machine = started; file = []; missing = 0; passed = 0 }
 
--- a stage after something is done to its run, with another file on its way, and with one record more
-abbrev pub onRun : (Run → Run) → Stage → Stage
-onRun does stage =
-    record { run = does (stage .run); file = stage .file; missing = stage .missing; passed = stage .passed }
+-- a stage after something is done to its machine, with another file on its way, and with one record more
+abbrev pub onMachine : (Machine → Machine) → Stage → Stage
+onMachine does stage =
+    record { machine = does (stage .machine); file = stage .file; missing = stage .missing; passed = stage .passed }
 
 abbrev pub withFile : List ℕ → ℕ → Stage → Stage
-withFile file missing stage = record { run = stage .run; file = file; missing = missing; passed = stage .passed }
+withFile file missing stage = record { machine = stage .machine; file = file; missing = missing; passed = stage .passed }
 
 abbrev pub counted : Stage → Stage
-counted stage = record { run = stage .run; file = stage .file; missing = stage .missing; passed = stage .passed + 1 }
+counted stage = record { machine = stage .machine; file = stage .file; missing = stage .missing; passed = stage .passed + 1 }
 
 -- an operation is performed where no byte of its file is missing
 unfoldable pub due : ℕ → Words → Stage → Stage
 due operation words stage =
-    cond (ltb 0 (stage .missing)) stage (onRun (performed operation words (stage .file)) stage)
+    cond (ltb 0 (stage .missing)) stage (onMachine (performed operation words (stage .file)) stage)
 
 -- a record of bytes of the file, of which the last may have more than are missing. The room does not run out: the whole length
 -- was looked at
@@ -70,20 +70,20 @@ taken bytes stage =
 unfoldable pub operated : Words → Stage → Stage
 operated words stage =
     cond (eqb (words .operation) 15)
-    (cond (leb (words .first) fileRoom) (due 15 words (withFile [] (words .first) stage)) (onRun bad stage))
+    (cond (leb (words .first) fileRoom) (due 15 words (withFile [] (words .first) stage)) (onMachine bad stage))
     (due (words .operation) words stage)
 
 -- what the record at the start of the bytes does; one that is cut short is bad
 unfoldable pub handled : List ℕ → Stage → Stage
 handled bytes stage =
-    cond (ltb (length bytes) recordBytes) (onRun bad stage)
+    cond (ltb (length bytes) recordBytes) (onMachine bad stage)
     (cond (ltb 0 (stage .missing)) (due 15 (wordsOf bytes) (taken bytes stage)) (operated (wordsOf bytes) stage))
 
 -- what `left` records at the start of the bytes do; a bad one is the last
 abbrev pub replayedOf : ℕ → List ℕ → Stage → Stage
 replayedOf zero bytes stage = stage
 replayedOf (suc left) bytes stage =
-    cond (handled bytes (counted stage) .run .good)
+    cond (handled bytes (counted stage) .machine .good)
     (replayedOf left (drop recordBytes bytes) (handled bytes (counted stage)))
     (handled bytes (counted stage))
 
@@ -97,9 +97,9 @@ replayed bytes stage = replayedOf (recordsIn bytes) bytes stage
 
 -- the number of a bad record: the last that was handled, or where none was bad the one that did not come
 abbrev pub badNumber : Stage → ℕ
-badNumber stage = stage .passed + oneIf (stage .run .good)
+badNumber stage = stage .passed + oneIf (stage .machine .good)
 
 -- the input ends: a bad record has its line, and where a file is still to come, so has the record that did not come
-unfoldable pub ended : Stage → Run
+unfoldable pub ended : Stage → Machine
 ended stage =
-    cond (stage .run .good && eqb (stage .missing) 0) (stage .run) (printed (badLine (badNumber stage)) (stage .run))
+    cond (stage .machine .good && eqb (stage .missing) 0) (stage .machine) (withText (badLine (badNumber stage)) (stage .machine))

@@ -1,7 +1,6 @@
 -- The bytes that wait in the output buffer. Assumes nothing.
 use Prim.Native.Nat.{ℕ}
-use mathlib.Core.Bool.{false, cond}
-use mathlib.Core.Path.{_≡_}
+use mathlib.Core.Bool.{cond}
 use mathlib.Core.List.{List, [], _∷_, _++_}
 use lib.Dec.{ltb}
 use lib.ListN.{length, take}
@@ -10,11 +9,6 @@ use Rattle.replay.specs.declared.output.Output.{Output}
 -- the waiting bytes: those of the buffer before the position
 abbrev pub waitingIn : List ℕ → Output → List ℕ
 waitingIn buffer output = take (output .at) buffer
-
--- after the waiting bytes are written none waits; a write that failed stays so
-pub record Flushed (output after : Output) : Type 0 where
-  pub emptied : after .at ≡ 0
-  pub failed : output .ok ≡ false → after .ok ≡ false
 
 -- the waiting bytes after one more is put behind them; where they fill the buffer, they are written first
 unfoldable pub putByte : List ℕ → ℕ → List ℕ

@@ -4,7 +4,7 @@ ghost use Prim.Native.Nat.{_+_, _≤_};
 ghost use lib.ListN.{length, take};
 ghost use Rattle.replay.specs.Answers.{callOf, answeredOf, replyCount, answered};
 ghost use Rattle.replay.specs.Replay.{arrayLength, room, called};
-ghost use Rattle.replay.specs.Stages.{stageOf, onRun};
+ghost use Rattle.replay.specs.Stages.{stageOf, onMachine};
 use crate::memory;
 use crate::output;
 use crate::output::Answer;
@@ -28,7 +28,7 @@ pub fn call(
 ) -> State
     requires { ⌜ length (now memory) ≡ arrayLength + room ⌝ }
     ensures { λ r. ⌜ stageOf (now (memory .exit)) (now (file .entry)) (now (buffer .exit)) r
-        ≡ onRun (called operation words (take (state .come) (now (file .entry))))
+        ≡ onMachine (called operation words (take (state .come) (now (file .entry))))
         (stageOf (now (memory .entry)) (now (file .entry)) (now (buffer .entry)) state) ⌝ }
 {
     let lent = state::least(state.lent, memory::LENGTH);

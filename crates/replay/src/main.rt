@@ -23,7 +23,7 @@ use output::Buffer;
 use state::State;
 
 // Does what the records of a chunk ask, up to a bad one or a write that failed.
-fn run(
+fn play(
     chunk: &[u8],
     memory: &mut Memory,
     file: &mut File,
@@ -79,7 +79,7 @@ fn main() {
     let mut turns = u64::MAX / 65536;
     while turns > 0 {
         let got = io::read_full(STDIN_FILENO, &mut chunk);
-        state = run(&chunk[..got], &mut memory, &mut file, &mut buffer, state);
+        state = play(&chunk[..got], &mut memory, &mut file, &mut buffer, state);
         turns = turns_left(turns, got == chunk.len(), state);
     }
     let last = output::end(&mut buffer, state);

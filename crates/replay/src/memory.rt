@@ -4,8 +4,8 @@ ghost use mathlib.Core.List.{List};
 ghost use Prim.Native.Nat.{ℕ, _+_, _<_};
 ghost use lib.ListN.{length, drop};
 ghost use Rattle.replay.specs.Text.{numbersLine};
-ghost use Rattle.replay.specs.Replay.{arrayLength, room, printed, division, dividedRun, changed, dumped};
-ghost use Rattle.replay.specs.Stages.{stageOf, onRun};
+ghost use Rattle.replay.specs.Replay.{arrayLength, room, withText, division, divisionDone, changed, dumped};
+ghost use Rattle.replay.specs.Stages.{stageOf, onMachine};
 use crate::output;
 use crate::output::Buffer;
 use crate::records::Words;
@@ -25,7 +25,7 @@ pub type Memory = [u64; LENGTH + ROOM];
 pub fn change(operation: u64, words: Words, memory: &mut [u64], mut state: State) -> State
     requires { ⌜ length (now memory) ≡ arrayLength + room ⌝ }
     ensures { λ r. ⌜ ((file buffer : List ℕ) → stageOf (now (memory .exit)) file buffer r
-        ≡ onRun (changed operation words) (stageOf (now (memory .entry)) file buffer state)) ⌝ }
+        ≡ onMachine (changed operation words) (stageOf (now (memory .entry)) file buffer state)) ⌝ }
 {
     match operation {
         11 => {
@@ -60,7 +60,7 @@ pub fn change(operation: u64, words: Words, memory: &mut [u64], mut state: State
 pub fn divide(pool: u64, size: u64, memory: &[u64], buffer: &mut Buffer, mut state: State) -> State
     requires { ⌜ length (now memory) ≡ arrayLength + room ⌝ }
     ensures { λ r. ⌜ ((file : List ℕ) → stageOf (now (memory .entry)) file (now (buffer .exit)) r
-        ≡ onRun (dividedRun pool size) (stageOf (now (memory .entry)) file (now (buffer .entry)) state)) ⌝ }
+        ≡ onMachine (divisionDone pool size) (stageOf (now (memory .entry)) file (now (buffer .entry)) state)) ⌝ }
 {
     let shares = size as usize;
     if shares > ROOM {
@@ -89,7 +89,7 @@ fn print_division(
     requires { ⌜ 0 < length (now line) ⌝ }
     ensures { λ _. ⌜ now (line .exit) ≡ division pool (now (weights .entry)) (drop 1 (now (line .entry))) ⌝ }
     ensures { λ r. ⌜ ((memory file : List ℕ) → stageOf memory file (now (buffer .exit)) r
-        ≡ onRun (printed (numbersLine (division pool (now (weights .entry)) (drop 1 (now (line .entry))))))
+        ≡ onMachine (withText (numbersLine (division pool (now (weights .entry)) (drop 1 (now (line .entry))))))
         (stageOf memory file (now (buffer .entry)) state)) ⌝ }
 {
     line[0] = apportion::divide(pool, weights, &mut line[1..]);
@@ -100,7 +100,7 @@ fn print_division(
 pub fn dump(start: u64, count: u64, memory: &[u64], buffer: &mut Buffer, state: State) -> State
     requires { ⌜ length (now memory) ≡ arrayLength + room ⌝ }
     ensures { λ r. ⌜ ((file : List ℕ) → stageOf (now (memory .entry)) file (now (buffer .exit)) r
-        ≡ onRun (dumped start count) (stageOf (now (memory .entry)) file (now (buffer .entry)) state)) ⌝ }
+        ≡ onMachine (dumped start count) (stageOf (now (memory .entry)) file (now (buffer .entry)) state)) ⌝ }
 {
     let from = start as usize;
     let many = count as usize;

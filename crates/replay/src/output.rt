@@ -5,9 +5,10 @@ ghost use Prim.Native.Nat.{ℕ, _+_, _<_, _^_};
 ghost use lib.ListN.{length};
 ghost use Rattle.report.specs.Text.{decimal};
 ghost use Rattle.replay.specs.Text.{numbersLine};
-ghost use Rattle.replay.specs.Waiting.{Flushed, waitingIn, putByte, put};
-ghost use Rattle.replay.specs.Replay.{runOf, printed};
-ghost use Rattle.replay.specs.Stages.{stageOf, onRun, ended};
+ghost use Rattle.replay.specs.Waiting.{waitingIn, putByte, put};
+ghost use Rattle.replay.specs.Inner.Steps.{Flushed};
+ghost use Rattle.replay.specs.Replay.{machineOf, withText};
+ghost use Rattle.replay.specs.Stages.{stageOf, onMachine, ended};
 use crate::state;
 use crate::state::State;
 use libc::STDOUT_FILENO;
@@ -92,7 +93,7 @@ fn put_number(number: u64, buffer: &mut Buffer, output: Output) -> Output
 // Prints an answer: a line of its numbers, with single spaces between.
 pub fn print(numbers: &[u64], buffer: &mut Buffer, mut state: State) -> State
     ensures { λ r. ⌜ ((memory file : List ℕ) → stageOf memory file (now (buffer .exit)) r
-        ≡ onRun (printed (numbersLine (now (numbers .entry)))) (stageOf memory file (now (buffer .entry)) state)) ⌝ }
+        ≡ onMachine (withText (numbersLine (now (numbers .entry)))) (stageOf memory file (now (buffer .entry)) state)) ⌝ }
 {
     let mut current = state.output;
     let mut i = 0;
@@ -111,7 +112,7 @@ pub fn print(numbers: &[u64], buffer: &mut Buffer, mut state: State) -> State
 // more than were handled.
 pub fn end(buffer: &mut Buffer, mut state: State) -> State
     requires { ⌜ state .passed + 1 < 2 ^ 64 ⌝ }
-    ensures { λ r. ⌜ ((memory file : List ℕ) → runOf memory (now (buffer .exit)) r
+    ensures { λ r. ⌜ ((memory file : List ℕ) → machineOf memory (now (buffer .exit)) r
         ≡ ended (stageOf memory file (now (buffer .entry)) state)) ⌝ }
 {
     if state.good & (state.missing == 0) {

@@ -4,8 +4,8 @@ ghost use mathlib.Core.Bool.{true};
 ghost use mathlib.Core.List.{List};
 ghost use Prim.Native.Nat.{ℕ, _+_, min};
 ghost use lib.ListN.{replicate};
-ghost use Rattle.replay.specs.Replay.{arrayLength, room, bad as badRun};
-ghost use Rattle.replay.specs.Stages.{stageOf, firstStage, onRun};
+ghost use Rattle.replay.specs.Replay.{arrayLength, room, bad};
+ghost use Rattle.replay.specs.Stages.{stageOf, firstStage, onMachine};
 use crate::memory;
 use crate::output::Output;
 
@@ -44,7 +44,7 @@ pub fn first() -> State
 
 // The record is bad.
 pub fn bad(mut state: State) -> State
-    ensures { λ r. ⌜ ((memory file buffer : List ℕ) → stageOf memory file buffer r ≡ onRun badRun (stageOf memory file buffer state)) ⌝ }
+    ensures { λ r. ⌜ ((memory file buffer : List ℕ) → stageOf memory file buffer r ≡ onMachine bad (stageOf memory file buffer state)) ⌝ }
 {
     state.good = false;
     state

@@ -13,17 +13,19 @@ use Rattle.apportion.specs.Grounds.{accepted}
 use Rattle.book_words.specs.Soundness.{sound}
 use Rattle.report.specs.declared.printing.Printed.{Printed}
 use Rattle.report.specs.declared.printing.Printed.the-variants.{Written, TooSmall, Refused}
-use Rattle.report.specs.Printing.{printedRefusal, answerFor, bufferWith}
-use Rattle.report.specs.Sheet.{sheetText, sheetRefusal, sheetAnswer, sheetBuffer}
+use Rattle.report.specs.Printing.{printedNumbers, answerFor, numbersFor, bufferWith}
+use Rattle.report.specs.Sheet.{sheetText, sheetRefusal, sheetAnswer, sheetNumbers, sheetBuffer}
 pub use Rattle.report.proofs.Lines.{sheet-fits, refused-fits}
 pub use Rattle.report.proofs.Stores.{Front, front-of}
 
--- no text is refused
-pub answer-unrefused : (text : List ℕ) (room : ℕ) (answer : Printed) → answer ≡ answerFor text room → printedRefusal answer ≡ 0
-unfolding answerFor
-answer-unrefused text room answer is = ap printedRefusal is ∙ go (leb (length text) room)
+-- what the answer for a text says: its number is 0
+answer-numbers : (text : List ℕ) (room : ℕ) (answer : Printed) → answer ≡ answerFor text room
+    → printedNumbers answer ≡ numbersFor 0 text room
+unfolding answerFor numbersFor
+answer-numbers text room answer is = ap printedNumbers is ∙ go (leb (length text) room)
   where
-    go : (fits : Bool) → printedRefusal (cond fits (Written (length text)) (TooSmall (length text))) ≡ 0
+    go : (fits : Bool) → printedNumbers (cond fits (Written (length text)) (TooSmall (length text)))
+        ≡ record { refusal = 0; written = fits; length = length text }
     go true = refl
     go false = refl
 
@@ -45,22 +47,22 @@ module _ (ws : List ℕ) where
   unfolding sheetBuffer sheetRefusal
   sheet-unprinted buffer unsound = rw unsound
 
-  -- document 01's number of the answer is that of the first ground
-  pub answer-refusal : (room : ℕ) (answer : Printed) → answer ≡ sheetAnswer ws room → printedRefusal answer ≡ sheetRefusal ws
-  unfolding sheetAnswer
-  answer-refusal room answer is = ap printedRefusal is ∙ go (sheetRefusal ws)
+  -- what the answer says: document 01's number is that of the first ground
+  pub sheet-numbers : (room : ℕ) (answer : Printed) → answer ≡ sheetAnswer ws room → printedNumbers answer ≡ sheetNumbers ws room
+  unfolding sheetAnswer sheetNumbers numbersFor
+  sheet-numbers room answer is = ap printedNumbers is ∙ go (sheetRefusal ws)
     where
-      go : (n : ℕ) → printedRefusal (accepted n (answerFor (sheetText ws) room) (Refused n)) ≡ n
-      go zero = answer-unrefused (sheetText ws) room (answerFor (sheetText ws) room) refl
+      go : (n : ℕ) → printedNumbers (accepted n (answerFor (sheetText ws) room) (Refused n)) ≡ numbersFor n (sheetText ws) room
+      go zero = answer-numbers (sheetText ws) room (answerFor (sheetText ws) room) refl
       go (suc n) = refl
 
   -- what was printed of its text is what is printed of a sound book
   pub sheet-given : (buffer : List ℕ) {answer : Printed} {after : List ℕ} → sound ws ≡ true
       → (answer ≡ answerFor (sheetText ws) (length buffer)) × (after ≡ bufferWith (sheetText ws) buffer)
-      → (answer ≡ sheetAnswer ws (length buffer)) × ((printedRefusal answer ≡ sheetRefusal ws) × (after ≡ sheetBuffer ws buffer))
+      → (answer ≡ sheetAnswer ws (length buffer)) × ((printedNumbers answer ≡ sheetNumbers ws (length buffer)) × (after ≡ sheetBuffer ws buffer))
   sheet-given buffer fine gave =
       let answered = gave .0 ∙ sym (sheet-answered (length buffer) fine) in
-      (answered, (answer-refusal (length buffer) _ answered, gave .1 ∙ sym (sheet-printed buffer fine)))
+      (answered, (sheet-numbers (length buffer) _ answered, gave .1 ∙ sym (sheet-printed buffer fine)))
 
 -- a text that fits is written whole, and the bytes past it stay as they were
 pub fitting-written : (text : List ℕ) (room : ℕ) → length text ≤ room → answerFor text room ≡ Written (length text)

@@ -1,7 +1,11 @@
--- Laws on plain values, for the proofs of this crate and of those above: `Stores` on bytes stored one after the other, `Decimals` on a
--- number's digits, `Lines` on lines and their lengths, `Used` on used chains, `Laws` for the crates above.
+-- What the proofs of this crate share, and the laws of a sheet.
+-- bytes stored one after the other
 mod Stores
+-- a number's digits
 mod Decimals
+-- used chains
 mod Used
+-- lines and their lengths
 mod Lines
+-- the laws for the crates above
 pub mod Laws

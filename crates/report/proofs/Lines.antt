@@ -13,15 +13,16 @@ use lib.ListN.{length, getD, drop, set, length-append, drop-of-length-le}
 use lib.Seq.{sets, drop-cons, length-sets}
 use Rattle.apportion.specs.Places.{sumBelow}
 use Rattle.book.specs.Statements.{elementsOn, waitingOn, sharesOn, statementOf}
-use Rattle.book.proofs.Walking.{Walked, walked-most, walked-fits}
+use Rattle.book.proofs.StatementWalk.{Walked, walked-most, walked-fits}
 use Rattle.book_words.specs.Book.{elements}
 use Rattle.book_words.specs.Measures.{mostChains}
 use Rattle.book_words.specs.Soundness.{sound}
-use Rattle.book_words.specs.Totals.{operation, provision}
-use Rattle.book_words.proofs.Facts.{sound-counted}
+use Rattle.book_words.specs.declared.totals.Side.the-variants.{Operation as operation, Provision as provision}
+use Rattle.book_words.proofs.SoundTests.{sound-counted}
 use Rattle.report.specs.Text.{decimal, spaced, line}
-use Rattle.report.specs.Chains.{NextUsed}
-use Rattle.report.specs.Sheet.{heading, isUsed, chainLine, linesTo, chainLines, sheetText, sheetRoom, refusedWord, refusedText, refusedRoom}
+use Rattle.report.specs.Inner.Steps.{NextUsed}
+use Rattle.report.specs.Sheet.{heading, isUsed, chainLine, linesTo, chainLines, sheetText, sheetRoom, refusedWord, refusedText}
+use Rattle.report.specs.Inner.Steps.{refusedRoom}
 use Rattle.report.proofs.Decimals.{digits-most, digits-few}
 use Rattle.report.proofs.Stores.{sets-append}
 use Rattle.report.proofs.Used.{elements-by-chain}

@@ -13,9 +13,9 @@ use Rattle.book_words.specs.Book.{elements, elementAt}
 use Rattle.book_words.specs.Measures.{mostChains}
 use Rattle.book_words.specs.Soundness.{sound}
 use Rattle.book_words.proofs.Booleans.{both, and-both}
-use Rattle.book_words.proofs.Handed.{chain-inside}
-use Rattle.book_words.proofs.Keys.{sum-by-key}
-use Rattle.report.specs.Chains.{NextUsed}
+use Rattle.book_words.proofs.ShareSums.{chain-inside}
+use Rattle.book_words.proofs.SumsByKey.{sum-by-key}
+use Rattle.report.specs.Inner.Steps.{NextUsed}
 use Rattle.report.specs.Sheet.{isUsed}
 
 -- how many of the first n elements a chain has

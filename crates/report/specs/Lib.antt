@@ -1,4 +1,5 @@
+-- What a reader has to believe. `Inner` serves the contracts of inner functions.
 pub mod Text
 pub mod Printing
 pub mod Sheet
-pub mod Chains
+pub mod Inner

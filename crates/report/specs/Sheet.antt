@@ -11,7 +11,7 @@ use Rattle.book_words.specs.Measures.{mostChains}
 use Rattle.book_words.specs.Soundness.{sound}
 use Rattle.report.specs.declared.printing.Printed.{Printed}
 use Rattle.report.specs.declared.printing.Printed.the-variants.{Refused}
-use Rattle.report.specs.Printing.{answerFor, bufferWith}
+use Rattle.report.specs.Printing.{PrintedNumbers, answerFor, numbersFor, bufferWith}
 use Rattle.report.specs.Text.{line}
 
 -- "chain elements waiting operation provision total" and a newline
@@ -54,7 +54,7 @@ chainLines ws = linesTo ws mostChains
 unfoldable pub sheetText : List ℕ → List ℕ
 sheetText ws = heading ++ chainLines ws
 
--- the most bytes of it: the heading's 49, and 74 for each of at most 256 lines
+-- room enough for it: the heading's 49 bytes, and 74 for each of at most 256 lines
 abbrev pub sheetRoom : ℕ
 sheetRoom = 18_993
 
@@ -65,9 +65,12 @@ sheetGrounds ws = (1, not (sound ws)) ∷ []
 unfoldable pub sheetRefusal : List ℕ → ℕ
 sheetRefusal ws = firstOf (sheetGrounds ws)
 
--- the answer for a buffer of `room` bytes, and the buffer after
+-- the answer for a buffer of `room` bytes, what it says, and the buffer after
 unfoldable pub sheetAnswer : List ℕ → ℕ → Printed
 sheetAnswer ws room = accepted (sheetRefusal ws) (answerFor (sheetText ws) room) (Refused (sheetRefusal ws))
+
+unfoldable pub sheetNumbers : List ℕ → ℕ → PrintedNumbers
+sheetNumbers ws room = numbersFor (sheetRefusal ws) (sheetText ws) room
 
 unfoldable pub sheetBuffer : List ℕ → List ℕ → List ℕ
 sheetBuffer ws buffer = accepted (sheetRefusal ws) (bufferWith (sheetText ws) buffer) buffer
@@ -79,7 +82,3 @@ refusedWord = 114 ∷ 101 ∷ 102 ∷ 117 ∷ 115 ∷ 101 ∷ 100 ∷ 32 ∷ []
 -- "`refused` with number, table (0 header) and record (0)", as `refused 11 0 0`
 unfoldable pub refusedText : ℕ → ℕ → ℕ → List ℕ
 refusedText number table recordNumber = refusedWord ++ line number (table ∷ recordNumber ∷ [])
-
--- the most bytes of it: the word's 8, three numbers of 20 digits, two spaces and the newline
-abbrev pub refusedRoom : ℕ
-refusedRoom = 71

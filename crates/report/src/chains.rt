@@ -2,7 +2,7 @@
 ghost use mathlib.Core.Bool.{true};
 ghost use mathlib.Core.Path.{_≡_};
 ghost use Rattle.book_words.specs.Soundness.{sound};
-ghost use Rattle.report.specs.Chains.{NextUsed};
+ghost use Rattle.report.specs.Inner.Steps.{NextUsed};
 use book_words::CHAIN_WORD;
 use book_words::ELEMENT_LIST;
 

@@ -1,7 +1,7 @@
-// A text handed over to a lent buffer, whole or not at all.
+// A text printed into a lent buffer, whole or not at all.
 ghost use mathlib.Core.Path.{_≡_};
 ghost use lib.ListN.{length};
-ghost use Rattle.report.specs.Printing.{answerFor, bufferWith};
+ghost use Rattle.report.specs.Printing.{printedNumbers, answerFor, numbersFor, bufferWith};
 
 // What printing answers.
 pub enum Printed {
@@ -14,8 +14,9 @@ pub enum Printed {
 }
 
 // Copies a text to the start of the buffer, where it fits.
-pub fn hand_over(text: &[u8], out: &mut [u8]) -> Printed
+pub fn print_text(text: &[u8], out: &mut [u8]) -> Printed
     ensures { λ r. ⌜ r ≡ answerFor (now (text .entry)) (length (now (out .entry))) ⌝ }
+    ensures { λ r. ⌜ printedNumbers r ≡ numbersFor 0 (now (text .entry)) (length (now (out .entry))) ⌝ }
     ensures { λ _. ⌜ now (out .exit) ≡ bufferWith (now (text .entry)) (now (out .entry)) ⌝ }
 {
     let count = text.len();

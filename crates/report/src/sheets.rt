@@ -6,20 +6,20 @@ ghost use lib.ListN.{length};
 ghost use lib.Seq.{sets};
 ghost use Rattle.book_words.specs.Measures.{isChain};
 ghost use Rattle.book_words.specs.Soundness.{sound};
-ghost use Rattle.report.specs.Printing.{printedRefusal, answerFor, bufferWith};
-ghost use Rattle.report.specs.Sheet.{chainLine, chainLines, sheetText, sheetRoom, sheetRefusal, sheetAnswer, sheetBuffer};
+ghost use Rattle.report.specs.Printing.{printedNumbers, answerFor, numbersFor, bufferWith};
+ghost use Rattle.report.specs.Sheet.{chainLine, chainLines, sheetText, sheetRoom, sheetAnswer, sheetNumbers, sheetBuffer};
 use crate::chains;
 use crate::printing;
 use crate::printing::Printed;
 use crate::text;
 
-// The most bytes of a sheet: the heading, and 256 lines of at most 74.
+// Room enough for a sheet: the heading, and 256 lines of at most 74 bytes.
 pub const SHEET_ROOM: usize = 18_993;
 
 // Prints the sheet of a book of any words.
 pub fn sheet(book: &[u64], out: &mut [u8]) -> Printed
     ensures { λ r. ⌜ r ≡ sheetAnswer (now (book .entry)) (length (now (out .entry))) ⌝ }
-    ensures { λ r. ⌜ printedRefusal r ≡ sheetRefusal (now (book .entry)) ⌝ }
+    ensures { λ r. ⌜ printedNumbers r ≡ sheetNumbers (now (book .entry)) (length (now (out .entry))) ⌝ }
     ensures { λ _. ⌜ now (out .exit) ≡ sheetBuffer (now (book .entry)) (now (out .entry)) ⌝ }
 {
     if !book_words::is_sound(book) {
@@ -32,7 +32,7 @@ pub fn sheet(book: &[u64], out: &mut [u8]) -> Printed
 pub fn sheet_sound(book: &[u64], out: &mut [u8]) -> Printed
     requires { ⌜ sound (now book) ≡ true ⌝ }
     ensures { λ r. ⌜ r ≡ sheetAnswer (now (book .entry)) (length (now (out .entry))) ⌝ }
-    ensures { λ r. ⌜ printedRefusal r ≡ sheetRefusal (now (book .entry)) ⌝ }
+    ensures { λ r. ⌜ printedNumbers r ≡ sheetNumbers (now (book .entry)) (length (now (out .entry))) ⌝ }
     ensures { λ _. ⌜ now (out .exit) ≡ sheetBuffer (now (book .entry)) (now (out .entry)) ⌝ }
 {
     if SHEET_ROOM <= out.len() {
@@ -45,11 +45,12 @@ pub fn sheet_sound(book: &[u64], out: &mut [u8]) -> Printed
 fn print_within(book: &[u64], out: &mut [u8]) -> Printed
     requires { ⌜ sound (now book) ≡ true ⌝ }
     ensures { λ r. ⌜ r ≡ answerFor (sheetText (now (book .entry))) (length (now (out .entry))) ⌝ }
+    ensures { λ r. ⌜ printedNumbers r ≡ numbersFor 0 (sheetText (now (book .entry))) (length (now (out .entry))) ⌝ }
     ensures { λ _. ⌜ now (out .exit) ≡ bufferWith (sheetText (now (book .entry))) (now (out .entry)) ⌝ }
 {
     let mut room = [0u8; SHEET_ROOM];
     let count = write_sheet(book, &mut room);
-    printing::hand_over(&room[..count], out)
+    printing::print_text(&room[..count], out)
 }
 
 // Writes the text of a sheet from the start of the buffer, and answers its length.

@@ -6,13 +6,13 @@ use native.Mathlib.Omega.{arith}
 use lib.ListN.{length}
 use borrow.Author.Needs.{needs}
 use Rattle.apportion.specs.Places.{sumBelow, at, sumOf}
-use Rattle.apportion.specs.Dividing.{largest}
+use Rattle.apportion.specs.Dividing.{mostTotal}
 use Rattle.apportion.proofs.Sums.{sum-more, sum-next}
 use Rattle.apportion.proofs.capped_total.Statement.{statement}
 use Rattle.apportion.proofs.capped_total.Tie as tie
 
 abbrev Inv-loop : tie.InvT-loop
-Inv-loop weights sum₀ k₀ sum k = (k ≤ length weights) × (sum ≤ largest) × (sum ≡ sumBelow k (at weights))
+Inv-loop weights sum₀ k₀ sum k = (k ≤ length weights) × (sum ≤ mostTotal) × (sum ≡ sumBelow k (at weights))
 
 abbrev μ-loop : tie.MeasureT-loop
 μ-loop weights sum₀ k₀ sum k = length weights - k

@@ -2,7 +2,7 @@
 -- Assumes nothing.
 use mathlib.Core.Path.{sym, _∙_}
 use borrow.Author.Needs.{needs}
-use Rattle.apportion.proofs.Accepting.{Reckoned, number-whole, total-whole, shares-accepted, shares-refused}
+use Rattle.apportion.proofs.AcceptedDivision.{Reckoned, number-whole, total-whole, shares-accepted, shares-refused}
 use Rattle.apportion.proofs.divide.Statement.{statement}
 use Rattle.apportion.proofs.divide.Tie as tie
 

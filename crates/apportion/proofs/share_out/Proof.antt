@@ -5,7 +5,7 @@ use Prim.Native.Nat.{_<_, ℕ}
 use lib.ListN.{length}
 use lib.Seq.{length-take-le}
 use Rattle.apportion.specs.Places.{listBelow}
-use Rattle.apportion.proofs.Accepting.{Admitted, admitted}
+use Rattle.apportion.proofs.AcceptedDivision.{Admitted, admitted}
 use Rattle.apportion.proofs.Laws.{pool-of-zero}
 use Rattle.apportion.proofs.share_out.Statement.{statement}
 use Rattle.apportion.proofs.share_out.Tie as tie

@@ -1,7 +1,7 @@
 -- `apportion::share_some` meets its contract: the floors, the bound and the units, each asked what the one before gave.
 -- Assumes nothing.
 use mathlib.Core.Path.{_∙_}
-use Rattle.apportion.proofs.Accepting.{Floored, bound-asked, units-asked, shares-are}
+use Rattle.apportion.proofs.AcceptedDivision.{Floored, bound-asked, units-asked, shares-are}
 use Rattle.apportion.proofs.share_some.Statement.{statement}
 use Rattle.apportion.proofs.share_some.Tie as tie
 
@@ -24,12 +24,12 @@ after-floors c = c .before .before .before .before .before .before .before .befo
 set-floors-requires : tie.Need-set-floors-requires
 set-floors-requires c κs = c .before .before .before .before .before .pre
 
-least-served-requires : tie.Need-least-served-requires
-least-served-requires c κs = bound-asked (floored (c .before .before .before .before .before))
+unit-bound-requires : tie.Need-unit-bound-requires
+unit-bound-requires c κs = bound-asked (floored (c .before .before .before .before .before))
 
 add-units-requires : tie.Need-add-units-requires
 add-units-requires c κs =
-    let least = c .before .before .least-served in
+    let least = c .before .before .unit-bound in
     units-asked (floored (c .before .before .before .before .before .before .before .before)) (least .result) (least .ensures .1) (least .ensures .0)
 
 same-length : tie.Need-same-length
@@ -48,7 +48,7 @@ share-some-spec =
     tie.close
     (tie.spec
     set-floors-requires
-    least-served-requires
+    unit-bound-requires
     add-units-requires
     same-length
     same-length-2

@@ -1,7 +1,7 @@
 -- `conservation::perform` meets its contract: each call is as its function ensures. Assumes nothing.
 use mathlib.Core.Path.{_∙_, ap}
 use borrow.Author.Needs.{needs}
-use Rattle.conservation.specs.Runs.{refusalAlone}
+use Rattle.book.specs.Calls.{refusalAlone}
 use Rattle.conservation.proofs.perform.Statement.{statement}
 use Rattle.conservation.proofs.perform.Tie as tie
 

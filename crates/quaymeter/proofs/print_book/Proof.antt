@@ -12,8 +12,8 @@ use Rattle.quaymeter.proofs.print_book.Tie as tie
 sheet-sound-requires : tie.Need-sheet-sound-requires
 sheet-sound-requires c κs = search needs
 
-length-of-requires : tie.Need-length-of-requires
-length-of-requires c κs = search needs
+bytes-written-requires : tie.Need-bytes-written-requires
+bytes-written-requires c κs = search needs
 
 same-length : tie.Need-same-length
 same-length c = search needs
@@ -24,11 +24,11 @@ returns c =
     let over = c .before .before .before .sheet-sound in
     let book = start .args .book .now in
     let out = start .args .out .now in (
-      c .length-of .ensures
+      c .bytes-written .ensures
           ∙ whole-length (sheetText book) (length out) (over .ensures .0 ∙ sheet-answered book (length out) (start .pre .0))
           (omega (arith, start .pre .1, sheet-fits book (start .pre .0))),
       over .ensures .1 .1 ∙ sheet-printed book out (start .pre .0),
     )
 
 pub print-book-spec : {M : Type 1} → statement M
-print-book-spec = tie.close (tie.spec sheet-sound-requires length-of-requires same-length returns)
+print-book-spec = tie.close (tie.spec sheet-sound-requires bytes-written-requires same-length returns)

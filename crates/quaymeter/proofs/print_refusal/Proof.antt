@@ -16,8 +16,8 @@ numbers-of-requires c κs = search needs
 refusal-line-requires : tie.Need-refusal-line-requires
 refusal-line-requires c κs = search needs
 
-length-of-requires : tie.Need-length-of-requires
-length-of-requires c κs = search needs
+bytes-written-requires : tie.Need-bytes-written-requires
+bytes-written-requires c κs = search needs
 
 same-length : tie.Need-same-length
 same-length c = search needs
@@ -28,7 +28,7 @@ returns c =
     let numbers = c .before .before .before .before .before .numbers-of .ensures in
     let over = c .before .before .before .refusal-line .ensures in
     let n = placeNumbers (start .args .number) (start .args .place) in (
-      c .length-of .ensures
+      c .bytes-written .ensures
           ∙ whole-length (refusedLine n) (length (start .args .out .now)) (rw numbers at (over .0))
           (omega (arith, start .pre, refused-fits (n .refusal) (n .table) (n .«record»))),
       rw numbers at (over .1 .1),
@@ -37,4 +37,4 @@ returns c =
 pub print-refusal-spec : {M : Type 1} → statement M
 print-refusal-spec =
     tie.close
-    (tie.spec numbers-of-requires refusal-line-requires length-of-requires same-length returns)
+    (tie.spec numbers-of-requires refusal-line-requires bytes-written-requires same-length returns)

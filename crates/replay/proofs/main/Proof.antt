@@ -38,11 +38,11 @@ read-full-requires c κs = search needs
 array-share-prefix-chunk : tie.Need-array-share-prefix-chunk Inv-loop μ-loop
 array-share-prefix-chunk c = search needs
 
-slice-aggregate-run : tie.Need-slice-aggregate-run Inv-loop μ-loop
-slice-aggregate-run c = search needs
+slice-aggregate-play : tie.Need-slice-aggregate-play Inv-loop μ-loop
+slice-aggregate-play c = search needs
 
-run-requires : tie.Need-run-requires Inv-loop μ-loop
-run-requires c κs = search needs
+play-requires : tie.Need-play-requires Inv-loop μ-loop
+play-requires c κs = search needs
 
 turns-left-requires : tie.Need-turns-left-requires Inv-loop μ-loop
 turns-left-requires c κs = search needs
@@ -75,8 +75,8 @@ main-spec =
     slice-aggregate-read-full
     read-full-requires
     array-share-prefix-chunk
-    slice-aggregate-run
-    run-requires
+    slice-aggregate-play
+    play-requires
     turns-left-requires
     loop-less
     loop-again

@@ -44,8 +44,8 @@ mul-t15 c = omega (arith, small (c .before .before))
 shared-slice-read-t17 : tie.Need-shared-slice-read-t17 Inv-loop μ-loop
 shared-slice-read-t17 c = omega (arith, small (c .before .before .before))
 
-plus-requires : tie.Need-plus-requires Inv-loop μ-loop
-plus-requires c κs =
+add-requires : tie.Need-add-requires Inv-loop μ-loop
+add-requires c κs =
     let in-loop = c .before .before .before in
     let bit = in-loop .before .loop .bit in
     let powers = start in-loop .pre .1 .1 in
@@ -86,7 +86,7 @@ divide-product-spec =
     shared-slice-read-t14
     mul-t15
     shared-slice-read-t17
-    plus-requires
+    add-requires
     add-bit
     loop-less
     loop-again

@@ -6,9 +6,9 @@ use native.Mathlib.Omega.{arith}
 use lib.ListN.{length}
 use borrow.Author.Needs.{needs}
 use Rattle.apportion.specs.Places.{at, sumOf}
-use Rattle.apportion.specs.Products.{Powers}
-use Rattle.apportion.proofs.Shares.{weight-within}
-use Rattle.apportion.proofs.Flooring.{Flooring, flooring-start, flooring-long, flooring-within, flooring-next, flooring-done}
+use Rattle.apportion.specs.Inner.Products.{Powers}
+use Rattle.apportion.proofs.FloorsAndUnits.{weight-within}
+use Rattle.apportion.proofs.FloorLoop.{Flooring, flooring-start, flooring-long, flooring-within, flooring-next, flooring-done}
 use Rattle.apportion.proofs.floors.set_floors.Statement.{statement}
 use Rattle.apportion.proofs.floors.set_floors.Tie as tie
 

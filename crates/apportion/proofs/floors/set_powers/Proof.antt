@@ -40,8 +40,8 @@ mul-remainders c = omega (arith, small c)
 slice-write-remainders : tie.Need-slice-write-remainders Inv-loop μ-loop
 slice-write-remainders c = omega (arith, small c)
 
-plus-requires : tie.Need-plus-requires Inv-loop μ-loop
-plus-requires c κs =
+add-requires : tie.Need-add-requires Inv-loop μ-loop
+add-requires c κs =
     let q = making-small (c .before .loop .inv) (omega arith) (c .loop-test .taken) in
     omega arith
 
@@ -56,7 +56,7 @@ loop-less c = omega arith
 
 loop-again : tie.Need-loop-again Inv-loop μ-loop
 loop-again c =
-    making-next (c .before .before .loop .inv) (small (c .before)) (c .plus .ensures .0) (c .plus .ensures .1)
+    making-next (c .before .before .loop .inv) (small (c .before)) (c .add .ensures .0) (c .add .ensures .1)
 
 same-length : tie.Need-same-length Inv-loop μ-loop
 same-length c = omega arith
@@ -80,7 +80,7 @@ set-powers-spec =
     slice-write-quotients
     mul-remainders
     slice-write-remainders
-    plus-requires
+    add-requires
     add-step
     add-bit
     loop-less

@@ -10,8 +10,8 @@ use lib.ListN.{length}
 use borrow.Author.Tests.{eq-eqb, ne-eqb}
 use borrow.Author.Needs.{needs}
 use Rattle.apportion.specs.Places.{oneIf}
-use Rattle.apportion.specs.Serving.{countAtLeast}
-use Rattle.apportion.proofs.Serving.{Handing, handing-start, handing-long, handing-few, handing-at, handing-next, handing-done}
+use Rattle.apportion.specs.Inner.Units.{countAtLeast}
+use Rattle.apportion.proofs.UnitLoop.{Handing, handing-start, handing-long, handing-few, handing-at, handing-next, handing-done}
 use Rattle.apportion.proofs.units.add_units.Statement.{statement}
 use Rattle.apportion.proofs.units.add_units.Tie as tie
 

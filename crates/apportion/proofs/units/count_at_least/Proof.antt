@@ -9,7 +9,7 @@ use lib.Dec.{leb}
 use borrow.Author.Needs.{needs}
 use borrow.Author.Tests.{le-leb, lt-leb}
 use Rattle.apportion.specs.Places.{oneIf, at}
-use Rattle.apportion.specs.Serving.{reach, countAtLeast}
+use Rattle.apportion.specs.Inner.Units.{reach, countAtLeast}
 use Rattle.apportion.proofs.Sums.{sum-next}
 use Rattle.apportion.proofs.units.count_at_least.Statement.{statement}
 use Rattle.apportion.proofs.units.count_at_least.Tie as tie

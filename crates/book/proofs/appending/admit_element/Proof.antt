@@ -2,28 +2,28 @@
 -- left. Assumes nothing.
 use borrow.Author.Needs.{needs}
 use Rattle.book_words.specs.Totals.{withElement}
-use Rattle.book_words.proofs.Facts.{sound-counted}
-use Rattle.book.proofs.Admitting.{turned-away, admitted}
-use Rattle.book.proofs.Counting.{element-counted}
+use Rattle.book_words.proofs.SoundTests.{sound-counted}
+use Rattle.book.proofs.GroundTen.{refused-with, admitted}
+use Rattle.book.proofs.SumsAfterCall.{element-counted}
 use Rattle.book.proofs.appending.admit_element.Statement.{statement}
 use Rattle.book.proofs.appending.admit_element.Tie as tie
 
-with-element-requires : tie.Need-with-element-requires
-with-element-requires c κs = search needs
+capped-with-element-requires : tie.Need-capped-with-element-requires
+capped-with-element-requires c κs = search needs
 
 are-within-requires : tie.Need-are-within-requires
 are-within-requires c κs = search needs
 
-turned-away-requires : tie.Need-turned-away-requires
-turned-away-requires c κs = search needs
+refused-with-requires : tie.Need-refused-with-requires
+refused-with-requires c κs = search needs
 
 returns : tie.Need-returns
 returns c =
     let tested = c .before .before in
     let counted = tested .before in
     let s = counted .before .before in
-    turned-away (withElement (s .args .sums) (s .args .added)) _ _ _ (counted .with-element .ensures) (tested .are-within .ensures)
-    (c .before .if1 .taken) (c .turned-away .ensures) (s .pre .1 .0)
+    refused-with (withElement (s .args .sums) (s .args .added)) _ _ _ (counted .capped-with-element .ensures) (tested .are-within .ensures)
+    (c .before .if1 .taken) (c .refused-with .ensures) (s .pre .1 .0)
 
 add-element-requires : tie.Need-add-element-requires
 add-element-requires c κs =
@@ -39,16 +39,16 @@ returns-2 c =
     let test = put .before .before in
     let counted = test .before .before in
     let s = counted .before .before in
-    admitted (withElement (s .args .sums) (s .args .added)) _ _ _ (counted .with-element .ensures) (test .before .are-within .ensures)
+    admitted (withElement (s .args .sums) (s .args .added)) _ _ _ (counted .capped-with-element .ensures) (test .before .are-within .ensures)
     (test .if1 .left) (put .add-element .ensures) (element-counted (s .args .book .now) (s .args .added) (s .pre))
 
 pub admit-element-spec : {M : Type 1} → statement M
 admit-element-spec =
     tie.close
     (tie.spec
-    with-element-requires
+    capped-with-element-requires
     are-within-requires
-    turned-away-requires
+    refused-with-requires
     returns
     add-element-requires
     same-length

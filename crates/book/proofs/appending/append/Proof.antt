@@ -5,7 +5,7 @@ use Prim.Native.Nat.{ℕ, _+_, _-_}
 use lib.ListN.{length, set}
 use borrow.Author.Needs.{needs}
 use Rattle.book_words.specs.Book.{countOf}
-use Rattle.book_words.proofs.Writes.{Storing, storing-start, storing-next, storing-done}
+use Rattle.book_words.proofs.WordsAfterWrite.{Storing, storing-start, storing-next, storing-done}
 use Rattle.book.proofs.appending.append.Statement.{statement}
 use Rattle.book.proofs.appending.append.Tie as tie
 

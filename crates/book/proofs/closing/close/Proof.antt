@@ -1,7 +1,7 @@
 -- `book::closing::close` meets its contract: ground 1, and the call on a sound book. Assumes nothing.
 use borrow.Author.Needs.{needs}
 use Rattle.book_shares.specs.Closing.{closeBook, closeRefusal}
-use Rattle.book.proofs.Refusing.{unsound-alone, was-true}
+use Rattle.book.proofs.TestsAsGrounds.{unsound-alone, was-true}
 use Rattle.book.proofs.closing.close.Statement.{statement}
 use Rattle.book.proofs.closing.close.Tie as tie
 

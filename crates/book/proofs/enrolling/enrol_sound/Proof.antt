@@ -1,20 +1,20 @@
--- `book::enrolling::enrol_sound` meets its contract: the grounds before 10 turn it away, or the record is admitted or not. Assumes nothing.
+-- `book::enrolling::enrol_sound` meets its contract: a ground before 10 refuses, or the record is admitted or not. Assumes nothing.
 use mathlib.Core.Bool.{_&&_}
 use mathlib.Core.Path.{_≡_, refl, sym, ap, _∙_}
 use borrow.Author.Needs.{needs}
 use borrow.Author.Tests.{leb-false, not-false}
-use Rattle.apportion.specs.Grounds.{groundsBefore}
+use Rattle.apportion.specs.Inner.Grounds.{groundsBefore}
 use Rattle.book_words.specs.Book.{addElement, elements, mostElements, categories, categoryOf}
 use Rattle.book_words.specs.Totals.{withElement}
-use Rattle.book_words.specs.Measures.{between, isChain, isCode, isAmount, isDistance}
+use Rattle.book_words.specs.Measures.{between, isChain, isCode, isAmount, isDistanceIn}
 use Rattle.book_words.specs.declared.records.Category.{Category}
 use Rattle.book.specs.Calls.{enrolGrounds, enrolRefusal, enrolReply, enrolBook, enrolledElement}
 use Rattle.apportion.proofs.Grounds.{decided-before, none-holds}
 use Rattle.book_words.proofs.Booleans.{both}
-use Rattle.book_words.proofs.Numbered.{category-there}
-use Rattle.book.proofs.Accepting.{Passed}
-use Rattle.book.proofs.Admitting.{record-decided}
-use Rattle.book.proofs.Refusing.{counted-refused}
+use Rattle.book_words.proofs.NumberedRecords.{category-there}
+use Rattle.book.proofs.AcceptedCalls.{Passed}
+use Rattle.book.proofs.GroundTen.{record-decided}
+use Rattle.book.proofs.TestsAsGrounds.{counted-refused}
 use Rattle.book.proofs.enrolling.enrol_sound.Statement.{statement}
 use Rattle.book.proofs.enrolling.enrol_sound.Tie as tie
 
@@ -27,19 +27,20 @@ passed c =
     none-holds (groundsBefore 10 (enrolGrounds (start c .args .book .now) (start c .args .e))) refl (sym (c .before .refusal-number .ensures) ∙ c .if1 .left)
 
 -- the category that was read is that of the number
-there : (c : tie.After-category-of)
-    → c .category-of .result ≡ categoryOf (start (c .before .before) .args .book .now) (start (c .before .before) .args .e .category)
+there : (c : tie.After-numbered-category)
+    → c .numbered-category .result ≡ categoryOf (start (c .before .before) .args .book .now) (start (c .before .before) .args .e .category)
 there c =
     let a = start (c .before .before) .args in
     let ws = a .book .now in
     let number = a .e .category in
-    category-there ws number (c .category-of .result) (c .category-of .ensures) (not-false (between 1 (categories ws) number) (passed (c .before .before) 2))
+    category-there ws number (c .numbered-category .result) (c .numbered-category .ensures)
+    (not-false (between 1 (categories ws) number) (passed (c .before .before) 2))
 
 refusal-number-requires : tie.Need-refusal-number-requires
 refusal-number-requires c κs = search needs
 
-turned-away-requires : tie.Need-turned-away-requires
-turned-away-requires c κs = search needs
+refused-with-requires : tie.Need-refused-with-requires
+refused-with-requires c κs = search needs
 
 same-length : tie.Need-same-length
 same-length c = search needs
@@ -50,10 +51,10 @@ returns c =
     let numbered = c .before .before in
     let s = numbered .before .before .before in
     let is = decided-before 10 (enrolGrounds (s .args .book .now) (s .args .e)) refl (numbered .refusal-number .ensures) (c .before .if1 .taken) in
-    counted-refused _ _ (c .turned-away .ensures) is (c .before .if1 .taken) (s .pre .1)
+    counted-refused _ _ (c .refused-with .ensures) is (c .before .if1 .taken) (s .pre .1)
 
-category-of-requires : tie.Need-category-of-requires
-category-of-requires c κs = c .before .before .before .before .before .pre .0
+numbered-category-requires : tie.Need-numbered-category-requires
+numbered-category-requires c κs = c .before .before .before .before .before .pre .0
 
 enrolled-requires : tie.Need-enrolled-requires
 enrolled-requires c κs =
@@ -63,9 +64,9 @@ enrolled-requires c κs =
     let none = passed test in
     let known = both (isChain (e .chain)) (isCode (e .code)) (not-false (isChain (e .chain) && isCode (e .code)) (none 3)) in
     let amount = isAmount (e .code) (e .amount) in
-    let distance = isDistance (categoryOf (start test .args .book .now) (e .category) .kind) (e .distance) in
+    let distance = isDistanceIn (categoryOf (start test .args .book .now) (e .category) .kind) (e .distance) in
     let measured = both amount distance (not-false (amount && distance) (none 7)) in
-    (known .1, (measured .0, ap (λ (x : Category). isDistance (x .kind) (e .distance)) (there read) ∙ measured .1))
+    (known .1, (measured .0, ap (λ (x : Category). isDistanceIn (x .kind) (e .distance)) (there read) ∙ measured .1))
 
 admit-element-requires : tie.Need-admit-element-requires
 admit-element-requires c κs =
@@ -95,10 +96,10 @@ enrol-sound-spec =
     tie.close
     (tie.spec
     refusal-number-requires
-    turned-away-requires
+    refused-with-requires
     same-length
     returns
-    category-of-requires
+    numbered-category-requires
     enrolled-requires
     admit-element-requires
     same-length-2

@@ -1,6 +1,6 @@
 -- `book::enrolling::enrolled` meets its contract: an activity in range is not capped. Assumes nothing.
 use borrow.Author.Needs.{needs}
-use Rattle.book_words.proofs.Capping.{capped-small}
+use Rattle.book_words.proofs.CappedSums.{capped-small}
 use Rattle.book_words.proofs.Ranges.{activity-small}
 use Rattle.book.proofs.enrolling.enrolled.Statement.{statement}
 use Rattle.book.proofs.enrolling.enrolled.Tie as tie

@@ -2,11 +2,11 @@
 use native.Mathlib.Omega.{arith}
 use borrow.Author.Needs.{needs}
 use mathlib.Core.List.{[]}
-use Rattle.apportion.specs.Grounds.{groundsBefore}
+use Rattle.apportion.specs.Inner.Grounds.{groundsBefore}
 use Rattle.book.specs.Calls.{enrolGroundsIn}
 use Rattle.apportion.proofs.Grounds.{groundsAfter}
-use Rattle.book_words.proofs.Facts.{sound-counted}
-use Rattle.book_words.proofs.Numbered.{category-grounds}
+use Rattle.book_words.proofs.SoundTests.{sound-counted}
+use Rattle.book_words.proofs.NumberedRecords.{category-grounds}
 use Rattle.book.proofs.enrolling.refusal_number.Statement.{statement}
 use Rattle.book.proofs.enrolling.refusal_number.Tie as tie
 
@@ -16,8 +16,8 @@ shared-slice-read-categories c = omega (arith, sound-counted (c .before .before 
 shared-slice-read-elements : tie.Need-shared-slice-read-elements
 shared-slice-read-elements c = omega (arith, sound-counted (c .before .before .before .args .book .now) (c .before .before .before .pre))
 
-category-of-requires : tie.Need-category-of-requires
-category-of-requires c κs = search needs
+numbered-category-requires : tie.Need-numbered-category-requires
+numbered-category-requires c κs = search needs
 
 is-chain-requires : tie.Need-is-chain-requires
 is-chain-requires c κs = search needs
@@ -31,8 +31,8 @@ unsuited-requires c κs = search needs
 is-amount-requires : tie.Need-is-amount-requires
 is-amount-requires c κs = search needs
 
-is-distance-requires : tie.Need-is-distance-requires
-is-distance-requires c κs = search needs
+is-distance-in-requires : tie.Need-is-distance-in-requires
+is-distance-in-requires c κs = search needs
 
 slice-aggregate-first-of : tie.Need-slice-aggregate-first-of
 slice-aggregate-first-of c = search needs
@@ -49,7 +49,7 @@ returns c =
     let s = read .before .before .before .before in
     let ws = s .args .book .now in
     let e = s .args .e in
-    category-grounds ws (e .category) [] (λ k. groundsAfter 2 (groundsBefore 10 (enrolGroundsIn ws e k))) (s .pre) (read .category-of .ensures) cc
+    category-grounds ws (e .category) [] (λ k. groundsAfter 2 (groundsBefore 10 (enrolGroundsIn ws e k))) (s .pre) (read .numbered-category .ensures) cc
 
 pub refusal-number-spec : {M : Type 1} → statement M
 refusal-number-spec =
@@ -57,12 +57,12 @@ refusal-number-spec =
     (tie.spec
     shared-slice-read-categories
     shared-slice-read-elements
-    category-of-requires
+    numbered-category-requires
     is-chain-requires
     is-code-requires
     unsuited-requires
     is-amount-requires
-    is-distance-requires
+    is-distance-in-requires
     slice-aggregate-first-of
     slice-aggregate-first-of-2
     first-of-requires

@@ -1,7 +1,7 @@
 -- `book::intensities::intensity` meets its contract: ground 1, and the call on a sound book. Assumes nothing.
 use borrow.Author.Needs.{needs}
 use Rattle.book_shares.specs.Intensities.{intensityReply, intensityRefusal}
-use Rattle.book.proofs.Refusing.{was-true, was-false}
+use Rattle.book.proofs.TestsAsGrounds.{was-true, was-false}
 use Rattle.book.proofs.intensities.intensity.Statement.{statement}
 use Rattle.book.proofs.intensities.intensity.Tie as tie
 

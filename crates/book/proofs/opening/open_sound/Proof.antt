@@ -5,24 +5,24 @@ use borrow.Author.Needs.{needs}
 use borrow.Author.Tests.{leb-false}
 use Rattle.book_words.specs.Book.{mostCategories}
 use Rattle.book.specs.Calls.{openReply, openBook}
-use Rattle.book_words.proofs.Facts.{sound-counted}
-use Rattle.book.proofs.Accepting.{opened}
-use Rattle.book.proofs.Refusing.{call-refused, call-accepted}
+use Rattle.book_words.proofs.SoundTests.{sound-counted}
+use Rattle.book.proofs.AcceptedCalls.{opened}
+use Rattle.book.proofs.TestsAsGrounds.{call-refused, call-accepted}
 use Rattle.book.proofs.opening.open_sound.Statement.{statement}
 use Rattle.book.proofs.opening.open_sound.Tie as tie
 
 refusal-number-requires : tie.Need-refusal-number-requires
 refusal-number-requires c κs = search needs
 
-refused-requires : tie.Need-refused-requires
-refused-requires c κs = search needs
+refusal-alone-requires : tie.Need-refusal-alone-requires
+refusal-alone-requires c κs = search needs
 
 same-length : tie.Need-same-length
 same-length c = search needs
 
 returns : tie.Need-returns
 unfolding openReply openBook
-returns c = call-refused _ _ (c .refused .ensures) (c .before .before .refusal-number .ensures) (c .before .if1 .taken)
+returns c = call-refused _ _ (c .refusal-alone .ensures) (c .before .before .refusal-number .ensures) (c .before .if1 .taken)
 
 add-category-requires : tie.Need-add-category-requires
 add-category-requires c κs =
@@ -45,7 +45,7 @@ open-sound-spec =
     tie.close
     (tie.spec
     refusal-number-requires
-    refused-requires
+    refusal-alone-requires
     same-length
     returns
     add-category-requires

@@ -3,8 +3,8 @@ use native.Mathlib.Omega.{arith}
 use borrow.Author.Needs.{needs}
 use Rattle.book.specs.Calls.{openGrounds, openRefusal}
 use Rattle.apportion.proofs.Grounds.{groundsAfter}
-use Rattle.book_words.proofs.Facts.{sound-counted}
-use Rattle.book_words.proofs.Numbered.{sound-grounds}
+use Rattle.book_words.proofs.SoundTests.{sound-counted}
+use Rattle.book_words.proofs.NumberedRecords.{sound-grounds}
 use Rattle.book.proofs.opening.refusal_number.Statement.{statement}
 use Rattle.book.proofs.opening.refusal_number.Tie as tie
 

@@ -1,22 +1,22 @@
--- `book::posting::post_sound` meets its contract: the grounds before 10 turn it away, or the record is admitted or not. Assumes nothing.
+-- `book::posting::post_sound` meets its contract: a ground before 10 refuses, or the record is admitted or not. Assumes nothing.
 use mathlib.Core.Path.{refl, sym, _∙_}
 use borrow.Author.Needs.{needs}
 use borrow.Author.Tests.{leb-false}
-use Rattle.apportion.specs.Grounds.{groundsBefore}
+use Rattle.apportion.specs.Inner.Grounds.{groundsBefore}
 use Rattle.book_words.specs.Book.{addEntry, entries, mostEntries}
 use Rattle.book_words.specs.Totals.{withEntry}
 use Rattle.book.specs.Calls.{postGrounds, postRefusal, postReply, postBook, postedEntry}
 use Rattle.apportion.proofs.Grounds.{decided-before, none-holds}
-use Rattle.book.proofs.Admitting.{post-capped, record-decided}
-use Rattle.book.proofs.Refusing.{counted-refused}
+use Rattle.book.proofs.GroundTen.{post-capped, record-decided}
+use Rattle.book.proofs.TestsAsGrounds.{counted-refused}
 use Rattle.book.proofs.posting.post_sound.Statement.{statement}
 use Rattle.book.proofs.posting.post_sound.Tie as tie
 
 refusal-number-requires : tie.Need-refusal-number-requires
 refusal-number-requires c κs = search needs
 
-turned-away-requires : tie.Need-turned-away-requires
-turned-away-requires c κs = search needs
+refused-with-requires : tie.Need-refused-with-requires
+refused-with-requires c κs = search needs
 
 same-length : tie.Need-same-length
 same-length c = search needs
@@ -27,7 +27,7 @@ returns c =
     let numbered = c .before .before in
     let s = numbered .before .before .before in
     let is = decided-before 10 (postGrounds (s .args .book .now) (s .args .p)) refl (numbered .refusal-number .ensures) (c .before .if1 .taken) in
-    counted-refused _ _ (c .turned-away .ensures) is (c .before .if1 .taken) (s .pre .1)
+    counted-refused _ _ (c .refused-with .ensures) is (c .before .if1 .taken) (s .pre .1)
 
 posted-requires : tie.Need-posted-requires
 posted-requires c κs = search needs
@@ -59,7 +59,7 @@ post-sound-spec =
     tie.close
     (tie.spec
     refusal-number-requires
-    turned-away-requires
+    refused-with-requires
     same-length
     returns
     posted-requires

@@ -2,11 +2,11 @@
 use native.Mathlib.Omega.{arith}
 use borrow.Author.Needs.{needs}
 use mathlib.Core.List.{[]}
-use Rattle.apportion.specs.Grounds.{groundsBefore}
+use Rattle.apportion.specs.Inner.Grounds.{groundsBefore}
 use Rattle.book.specs.Calls.{postGroundsIn}
 use Rattle.apportion.proofs.Grounds.{groundsAfter}
-use Rattle.book_words.proofs.Facts.{sound-counted}
-use Rattle.book_words.proofs.Numbered.{category-grounds}
+use Rattle.book_words.proofs.SoundTests.{sound-counted}
+use Rattle.book_words.proofs.NumberedRecords.{category-grounds}
 use Rattle.book.proofs.posting.refusal_number.Statement.{statement}
 use Rattle.book.proofs.posting.refusal_number.Tie as tie
 
@@ -16,8 +16,8 @@ shared-slice-read-categories c = omega (arith, sound-counted (c .before .before 
 shared-slice-read-entries : tie.Need-shared-slice-read-entries
 shared-slice-read-entries c = omega (arith, sound-counted (c .before .before .before .args .book .now) (c .before .before .before .pre))
 
-category-of-requires : tie.Need-category-of-requires
-category-of-requires c κs = search needs
+numbered-category-requires : tie.Need-numbered-category-requires
+numbered-category-requires c κs = search needs
 
 unsuited-group-requires : tie.Need-unsuited-group-requires
 unsuited-group-requires c κs = search needs
@@ -37,7 +37,7 @@ returns c =
     let s = read .before .before .before .before in
     let ws = s .args .book .now in
     let p = s .args .p in
-    category-grounds ws (p .category) [] (λ k. groundsAfter 2 (groundsBefore 10 (postGroundsIn ws p k))) (s .pre) (read .category-of .ensures) cc
+    category-grounds ws (p .category) [] (λ k. groundsAfter 2 (groundsBefore 10 (postGroundsIn ws p k))) (s .pre) (read .numbered-category .ensures) cc
 
 pub refusal-number-spec : {M : Type 1} → statement M
 refusal-number-spec =
@@ -45,7 +45,7 @@ refusal-number-spec =
     (tie.spec
     shared-slice-read-categories
     shared-slice-read-entries
-    category-of-requires
+    numbered-category-requires
     unsuited-group-requires
     slice-aggregate-first-of
     slice-aggregate-first-of-2

@@ -1,19 +1,23 @@
 -- `book::quoting::nearest_thousandth` meets its contract: the thousands of the product and what is left of it, each
 -- multiplied within 64 bits, make the amount. Assumes nothing.
+use mathlib.Core.Bool.{true}
+use mathlib.Core.Path.{_≡_}
 use Prim.Native.Nat.{_≤_, ℕ, _*_, _%_}
 use native.Mathlib.Nat.{mul-le-mul}
 use native.Mathlib.Omega.{arith}
 use borrow.Author.Needs.{needs}
-use Rattle.book_words.proofs.Capping.{capped-add}
-use Rattle.book.proofs.Quotes.{thousands-apart}
+use borrow.Author.Tests.{leb-true}
+use Rattle.book_words.specs.Measures.{isIntensity}
+use Rattle.book_words.proofs.CappedSums.{capped-add}
+use Rattle.book.proofs.QuotedAmounts.{thousands-apart}
 use Rattle.book.proofs.quoting.nearest_thousandth.Statement.{statement}
 use Rattle.book.proofs.quoting.nearest_thousandth.Tie as tie
 
--- the product of the intensity and what is left of an product
-rest-small : (intensity product : ℕ) → intensity ≤ 1_000_000_000 → intensity * (product % 1000) ≤ 1_000_000_000 * 999
+-- the product of the intensity and what is left of a product
+rest-small : (intensity product : ℕ) → isIntensity intensity ≡ true → intensity * (product % 1000) ≤ 1_000_000_000 * 999
 rest-small intensity product h =
     let rest : product % 1000 ≤ 999 = omega arith in
-    mul-le-mul h rest
+    mul-le-mul (leb-true intensity 1_000_000_000 h) rest
 
 multiply-requires : tie.Need-multiply-requires
 multiply-requires c κs = search needs

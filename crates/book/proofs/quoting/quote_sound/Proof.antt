@@ -1,16 +1,15 @@
--- `book::quoting::quote_sound` meets its contract: the grounds before 10 turn it away, or the record is admitted or not. Assumes nothing.
+-- `book::quoting::quote_sound` meets its contract: a ground before 10 refuses, or the record is admitted or not. Assumes nothing.
 use mathlib.Core.Path.{refl, sym, _∙_}
 use borrow.Author.Needs.{needs}
-use borrow.Author.Tests.{leb-false}
-use Rattle.apportion.specs.Grounds.{groundsBefore}
+use borrow.Author.Tests.{leb-false, not-false}
+use Rattle.apportion.specs.Inner.Grounds.{groundsBefore}
 use Rattle.book_words.specs.Book.{addElement, elements, mostElements}
 use Rattle.book_words.specs.Totals.{withElement}
-use Rattle.book.specs.Calls.{quoteGrounds, quoteRefusal, quoteReply, quoteBook, quotedElement}
+use Rattle.book.specs.Calls.{quoteInRange, quoteGrounds, quoteRefusal, quoteReply, quoteBook, quotedElement}
 use Rattle.apportion.proofs.Grounds.{decided-before, none-holds}
-use Rattle.book.proofs.Accepting.{Passed}
-use Rattle.book.proofs.Admitting.{quote-capped, record-decided}
-use Rattle.book.proofs.Quotes.{quotable}
-use Rattle.book.proofs.Refusing.{counted-refused}
+use Rattle.book.proofs.AcceptedCalls.{Passed}
+use Rattle.book.proofs.GroundTen.{quote-capped, record-decided}
+use Rattle.book.proofs.TestsAsGrounds.{counted-refused}
 use Rattle.book.proofs.quoting.quote_sound.Statement.{statement}
 use Rattle.book.proofs.quoting.quote_sound.Tie as tie
 
@@ -25,8 +24,8 @@ passed c =
 refusal-number-requires : tie.Need-refusal-number-requires
 refusal-number-requires c κs = search needs
 
-turned-away-requires : tie.Need-turned-away-requires
-turned-away-requires c κs = search needs
+refused-with-requires : tie.Need-refused-with-requires
+refused-with-requires c κs = search needs
 
 same-length : tie.Need-same-length
 same-length c = search needs
@@ -37,10 +36,10 @@ returns c =
     let numbered = c .before .before in
     let s = numbered .before .before .before in
     let is = decided-before 10 (quoteGrounds (s .args .book .now) (s .args .q)) refl (numbered .refusal-number .ensures) (c .before .if1 .taken) in
-    counted-refused _ _ (c .turned-away .ensures) is (c .before .if1 .taken) (s .pre .1)
+    counted-refused _ _ (c .refused-with .ensures) is (c .before .if1 .taken) (s .pre .1)
 
 quoted-requires : tie.Need-quoted-requires
-quoted-requires c κs = quotable (start (c .before) .args .q) (passed (c .before) 7)
+quoted-requires c κs = not-false (quoteInRange (start (c .before) .args .q)) (passed (c .before) 7)
 
 admit-element-requires : tie.Need-admit-element-requires
 admit-element-requires c κs =
@@ -67,7 +66,7 @@ quote-sound-spec =
     tie.close
     (tie.spec
     refusal-number-requires
-    turned-away-requires
+    refused-with-requires
     same-length
     returns
     quoted-requires

@@ -1,11 +1,11 @@
 -- `book::quoting::refusal_number` meets its contract: its tests are the conditions of the grounds. Assumes nothing.
 use native.Mathlib.Omega.{arith}
 use borrow.Author.Needs.{needs}
-use Rattle.apportion.specs.Grounds.{groundsBefore}
+use Rattle.apportion.specs.Inner.Grounds.{groundsBefore}
 use Rattle.book.specs.Calls.{quoteGrounds}
 use Rattle.apportion.proofs.Grounds.{groundsAfter}
-use Rattle.book_words.proofs.Facts.{sound-counted}
-use Rattle.book_words.proofs.Numbered.{sound-grounds}
+use Rattle.book_words.proofs.SoundTests.{sound-counted}
+use Rattle.book_words.proofs.NumberedRecords.{sound-grounds}
 use Rattle.book.proofs.quoting.refusal_number.Statement.{statement}
 use Rattle.book.proofs.quoting.refusal_number.Tie as tie
 
@@ -15,8 +15,8 @@ shared-slice-read-elements c = omega (arith, sound-counted (c .before .before .a
 is-chain-requires : tie.Need-is-chain-requires
 is-chain-requires c κs = search needs
 
-is-amount-requires : tie.Need-is-amount-requires
-is-amount-requires c κs = search needs
+is-mass-requires : tie.Need-is-mass-requires
+is-mass-requires c κs = search needs
 
 is-distance-requires : tie.Need-is-distance-requires
 is-distance-requires c κs = search needs
@@ -42,7 +42,7 @@ refusal-number-spec =
     (tie.spec
     shared-slice-read-elements
     is-chain-requires
-    is-amount-requires
+    is-mass-requires
     is-distance-requires
     slice-aggregate-first-of
     slice-aggregate-first-of-2

@@ -2,20 +2,20 @@
 use mathlib.Core.Path.{sym, _∙_}
 use borrow.Author.Needs.{needs}
 use Rattle.book.proofs.Laws.{statement-unknown, statement-accepted}
-use Rattle.book.proofs.Refusing.{was-true, was-false}
+use Rattle.book.proofs.TestsAsGrounds.{was-true, was-false}
 use Rattle.book.proofs.statements.statement_sound.Statement.{statement}
 use Rattle.book.proofs.statements.statement_sound.Tie as tie
 
 is-chain-requires : tie.Need-is-chain-requires
 is-chain-requires c κs = search needs
 
-no-statement-requires : tie.Need-no-statement-requires
-no-statement-requires c κs = search needs
+zeros-beside-requires : tie.Need-zeros-beside-requires
+zeros-beside-requires c κs = search needs
 
 returns : tie.Need-returns
 returns c =
     let tested = c .before .before in
-    c .no-statement .ensures ∙ sym (statement-unknown _ _ (tested .before .before .pre) (was-false (tested .is-chain .ensures) (c .before .if1 .taken)))
+    c .zeros-beside .ensures ∙ sym (statement-unknown _ _ (tested .before .before .pre) (was-false (tested .is-chain .ensures) (c .before .if1 .taken)))
 
 walk-requires : tie.Need-walk-requires
 walk-requires c κs = search needs
@@ -27,4 +27,4 @@ returns-2 c =
 
 pub statement-sound-spec : {M : Type 1} → statement M
 statement-sound-spec =
-    tie.close (tie.spec is-chain-requires no-statement-requires returns walk-requires returns-2)
+    tie.close (tie.spec is-chain-requires zeros-beside-requires returns walk-requires returns-2)

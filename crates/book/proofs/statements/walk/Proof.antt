@@ -8,10 +8,10 @@ use Rattle.apportion.specs.Places.{oneIf}
 use Rattle.book_words.specs.Book.{elementAt}
 use Rattle.book_words.specs.declared.records.Element.{Element}
 use Rattle.book.specs.Statements.{waits}
-use Rattle.book_words.proofs.Facts.{sound-counted}
-use Rattle.book_words.proofs.Handed.{category-inside}
-use Rattle.book_words.proofs.Numbered.{next-element}
-use Rattle.book.proofs.Walking.{Walked, walked-start, walked-own, walked-other, walked-most, walked-fits, walked-done}
+use Rattle.book_words.proofs.SoundTests.{sound-counted}
+use Rattle.book_words.proofs.ShareSums.{category-inside}
+use Rattle.book_words.proofs.NumberedRecords.{next-element}
+use Rattle.book.proofs.StatementWalk.{Walked, walked-start, walked-own, walked-other, walked-most, walked-fits, walked-done}
 use Rattle.book.proofs.statements.walk.Statement.{statement}
 use Rattle.book.proofs.statements.walk.Tie as tie
 
@@ -34,15 +34,15 @@ add-passed c =
     let s = c .before .before .before .before in
     omega (arith, sound-counted (s .args .book .now) (s .pre))
 
-element-of-requires : tie.Need-element-of-requires Inv-loop μ-loop
-element-of-requires c κs = search needs
+numbered-element-requires : tie.Need-numbered-element-requires Inv-loop μ-loop
+numbered-element-requires c κs = search needs
 
-abbrev start : tie.After-element-of Inv-loop μ-loop → tie.Start Inv-loop μ-loop
+abbrev start : tie.After-numbered-element Inv-loop μ-loop → tie.Start Inv-loop μ-loop
 start c = c .before .before .before .before .before
 
 -- the element that was read is the next
-read : (c : tie.After-element-of Inv-loop μ-loop) → c .element-of .result ≡ elementAt (start c .args .book .now) (c .before .before .loop .passed)
-read c = c .element-of .ensures ∙ next-element (start c .args .book .now) (c .before .before .loop .passed) (c .before .loop-test .taken)
+read : (c : tie.After-numbered-element Inv-loop μ-loop) → c .numbered-element .result ≡ elementAt (start c .args .book .now) (c .before .before .loop .passed)
+read c = c .numbered-element .ensures ∙ next-element (start c .args .book .now) (c .before .before .loop .passed) (c .before .loop-test .taken)
 
 loop-less : tie.Need-loop-less Inv-loop μ-loop
 loop-less c = omega arith
@@ -53,11 +53,12 @@ loop-again c =
     walked-other _ _ (at .before .before .loop .inv) (at .before .loop-test .taken) _ (read at) (c .if1 .taken)
 
 -- what the walk holds after an element of the chain
-turned : (c : tie.Else1 Inv-loop μ-loop) (one : ℕ) → one ≡ oneIf (waits (start (c .before .before) .args .book .now) (c .before .before .element-of .result))
+turned : (c : tie.Else1 Inv-loop μ-loop) (one : ℕ)
+    → one ≡ oneIf (waits (start (c .before .before) .args .book .now) (c .before .before .numbered-element .result))
     → Walked (start (c .before .before) .args .book .now) (start (c .before .before) .args .chain) (c .before .before .before .before .loop .passed + 1)
     (c .before .before .before .before .loop .elements + 1) (c .before .before .before .before .loop .waiting + one)
-    (c .before .before .before .before .loop .operation + c .before .before .element-of .result .operation)
-    (c .before .before .before .before .loop .provision + c .before .before .element-of .result .provision)
+    (c .before .before .before .before .loop .operation + c .before .before .numbered-element .result .operation)
+    (c .before .before .before .before .loop .provision + c .before .before .numbered-element .result .provision)
 turned c one waited =
     let at = c .before .before in
     walked-own _ _ (at .before .before .loop .inv) (at .before .loop-test .taken) _ (read at) (c .if1 .left) one waited
@@ -115,7 +116,7 @@ walk-spec =
     shared-slice-read-count
     loop-holds
     add-passed
-    element-of-requires
+    numbered-element-requires
     loop-less
     loop-again
     add-elements

@@ -1,7 +1,7 @@
 -- `book::striking::strike` meets its contract: ground 1, and the call on a sound book. Assumes nothing.
 use borrow.Author.Needs.{needs}
 use Rattle.book.specs.Calls.{strikeBook, strikeRefusal}
-use Rattle.book.proofs.Refusing.{unsound-alone, was-true}
+use Rattle.book.proofs.TestsAsGrounds.{unsound-alone, was-true}
 use Rattle.book.proofs.striking.strike.Statement.{statement}
 use Rattle.book.proofs.striking.strike.Tie as tie
 

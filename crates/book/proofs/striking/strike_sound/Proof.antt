@@ -8,9 +8,9 @@ use Rattle.book_words.specs.Book.{entries}
 use Rattle.book_words.specs.Measures.{between}
 use Rattle.book.specs.Calls.{strikeBook}
 use Rattle.apportion.proofs.Grounds.{refused-old}
-use Rattle.book_words.proofs.Facts.{sound-counted}
+use Rattle.book_words.proofs.SoundTests.{sound-counted}
 use Rattle.book_words.proofs.Ranges.{between-low, between-high}
-use Rattle.book.proofs.Accepting.{struck}
+use Rattle.book.proofs.AcceptedCalls.{struck}
 use Rattle.book.proofs.striking.strike_sound.Statement.{statement}
 use Rattle.book.proofs.striking.strike_sound.Tie as tie
 

@@ -4,14 +4,14 @@ use Rattle.book_file.specs.File.{wrongSections}
 use Rattle.book_file.proofs.header.are_misplaced.Statement.{statement}
 use Rattle.book_file.proofs.header.are_misplaced.Tie as tie
 
-categories-requires : tie.Need-categories-requires
-categories-requires c κs = search needs
+categories-in-requires : tie.Need-categories-in-requires
+categories-in-requires c κs = search needs
 
-entries-requires : tie.Need-entries-requires
-entries-requires c κs = search needs
+entries-in-requires : tie.Need-entries-in-requires
+entries-in-requires c κs = search needs
 
-elements-requires : tie.Need-elements-requires
-elements-requires c κs = search needs
+elements-in-requires : tie.Need-elements-in-requires
+elements-in-requires c κs = search needs
 
 is-misplaced-requires : tie.Need-is-misplaced-requires
 is-misplaced-requires c κs = search needs
@@ -37,18 +37,18 @@ returns c =
       c .before .before .is-misplaced2 .ensures,
       c .before .before .before .end .ensures,
       c .before .before .before .before .is-misplaced .ensures,
-      c .before .before .before .before .before .elements .ensures .0,
-      c .before .before .before .before .before .before .entries .ensures .0,
-      c .before .before .before .before .before .before .before .categories .ensures .0,
+      c .before .before .before .before .before .elements-in .ensures .0,
+      c .before .before .before .before .before .before .entries-in .ensures .0,
+      c .before .before .before .before .before .before .before .categories-in .ensures .0,
     )
 
 pub are-misplaced-spec : {M : Type 1} → statement M
 are-misplaced-spec =
     tie.close
     (tie.spec
-    categories-requires
-    entries-requires
-    elements-requires
+    categories-in-requires
+    entries-in-requires
+    elements-in-requires
     is-misplaced-requires
     end-requires
     is-misplaced-requires-2

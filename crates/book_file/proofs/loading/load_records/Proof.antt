@@ -9,7 +9,7 @@ use Rattle.book_file.specs.declared.answers.Load.the-variants.{Loaded}
 use Rattle.book_file.specs.declared.tables.Table.{Table}
 use Rattle.book_file.specs.declared.tables.Table.the-variants.{Categories, Entries, Elements, Closings}
 use Rattle.book_file.specs.Loading.{Task, tasksIn, tasksOf, Loading, loadingOf, carriedOn}
-use Rattle.book_file.proofs.Carrying.{carried-sound, carried-tables}
+use Rattle.book_file.proofs.TaskLoop.{carried-sound, carried-tables}
 use Rattle.book_file.proofs.loading.load_records.Statement.{statement}
 use Rattle.book_file.proofs.loading.load_records.Tie as tie
 

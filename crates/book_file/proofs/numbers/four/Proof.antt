@@ -1,7 +1,7 @@
 -- `book_file::numbers::four` meets its contract. Assumes nothing.
 use native.Mathlib.Omega.{arith}
 use borrow.Author.Needs.{needs}
-use Rattle.book_file.proofs.Spelling.{four-bytes}
+use Rattle.book_file.proofs.NumberBytes.{four-bytes}
 use Rattle.book_file.proofs.numbers.four.Statement.{statement}
 use Rattle.book_file.proofs.numbers.four.Tie as tie
 

@@ -2,7 +2,7 @@
 use mathlib.Core.Path.{sym, _∙_}
 use native.Mathlib.Omega.{arith}
 use borrow.Author.Needs.{needs}
-use Rattle.book_file.proofs.Spelling.{number-inside, number-past}
+use Rattle.book_file.proofs.NumberBytes.{number-inside, number-past}
 use Rattle.book_file.proofs.numbers.u32_at.Statement.{statement}
 use Rattle.book_file.proofs.numbers.u32_at.Tie as tie
 

@@ -2,7 +2,7 @@
 use mathlib.Core.Path.{sym, _∙_}
 use native.Mathlib.Omega.{arith}
 use borrow.Author.Needs.{needs}
-use Rattle.book_file.proofs.Spelling.{eight-bytes, number-inside, number-past}
+use Rattle.book_file.proofs.NumberBytes.{eight-bytes, number-inside, number-past}
 use Rattle.book_file.proofs.numbers.u64_at.Statement.{statement}
 use Rattle.book_file.proofs.numbers.u64_at.Tie as tie
 

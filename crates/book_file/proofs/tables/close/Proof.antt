@@ -3,7 +3,7 @@ use mathlib.Core.Path.{refl}
 use borrow.Author.Tests.{eq-eqb, ne-eqb}
 use borrow.Author.Needs.{needs}
 use Rattle.book_file.specs.Loading.{closing}
-use Rattle.book_file.proofs.Carrying.{call-made}
+use Rattle.book_file.proofs.TaskLoop.{call-made}
 use Rattle.book_file.proofs.tables.close.Statement.{statement}
 use Rattle.book_file.proofs.tables.close.Tie as tie
 

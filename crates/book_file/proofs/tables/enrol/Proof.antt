@@ -3,7 +3,7 @@
 use mathlib.Core.Path.{sym}
 use borrow.Author.Needs.{needs}
 use Rattle.book_file.specs.Loading.{enrolling}
-use Rattle.book_file.proofs.Carrying.{made-broken, counted-made}
+use Rattle.book_file.proofs.TaskLoop.{made-broken, counted-made}
 use Rattle.book_file.proofs.tables.enrol.Statement.{statement}
 use Rattle.book_file.proofs.tables.enrol.Tie as tie
 

@@ -6,10 +6,15 @@ use borrow.Author.Needs.{needs}
 use Rattle.book_file.specs.declared.header.Section.{Section}
 use Rattle.book_file.specs.declared.tables.Table.{Table}
 use Rattle.book_file.specs.File.{recordAt, categoryRecord, entryRecord, elementRecord}
-use Rattle.book_file.specs.Loading.{Loading, sectionOf, opening, posting, enrollingOrQuoting, made, madeClosing, madeAt}
-use Rattle.book_file.proofs.Carrying.{opening-sums, closing-sums, known-still}
+use Rattle.book_file.specs.Inner.Steps.{madeIf}
+use Rattle.book_file.specs.Loading.{Loading, sectionOf, opening, posting, enrollingOrQuoting, closing, made, isFlagged, isAsked, taskAt}
+use Rattle.book_file.proofs.TaskLoop.{opening-sums, closing-sums, known-still}
 use Rattle.book_file.proofs.tables.load_record.Statement.{statement}
 use Rattle.book_file.proofs.tables.load_record.Tie as tie
+
+-- what the record at a place asks for
+abbrev madeAt : List ℕ → List ℕ → Table → ℕ → Loading
+madeAt ws file table place = madeIf (isAsked file table place) ws (taskAt file table place)
 
 -- a record that was read at its position is that of its table's section: what was done with it is what its place asks for
 module _ (c : tie.After-record-at) where
@@ -110,7 +115,7 @@ returns-4 c =
     let read = c .before .before .before in
     let at = read .before .before .before .before in
     let a = start at .args in
-    done-at at categoryRecord madeClosing (read .before .before .enum-told4 .given .1) (read .category2 .ensures)
+    done-at at categoryRecord (λ ws k r. madeIf (isFlagged r) ws (closing k)) (read .before .before .enum-told4 .given .1) (read .category2 .ensures)
     (known-still (start at .pre .1 .0) (c .before .before .close .ensures) (closing-sums (a .book .now) (a .place + 1) (read .category2 .result))) refl
 
 pub load-record-spec : {M : Type 1} → statement M

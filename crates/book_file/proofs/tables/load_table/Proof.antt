@@ -13,7 +13,7 @@ use Rattle.book_file.specs.declared.answers.Load.{Load}
 use Rattle.book_file.specs.declared.answers.Load.the-variants.{Loaded}
 use Rattle.book_file.specs.declared.header.Section.{Section}
 use Rattle.book_file.specs.Loading.{Loading, loadingOf, isAsked, taskAt, tasksIn, carriedOn}
-use Rattle.book_file.proofs.Carrying.{through, through-next, through-stopped, carried-stopped, carried-sound}
+use Rattle.book_file.proofs.TaskLoop.{through, through-next, through-stopped, carried-stopped, carried-sound}
 use Rattle.book_file.proofs.tables.load_table.Statement.{statement}
 use Rattle.book_file.proofs.tables.load_table.Tie as tie
 

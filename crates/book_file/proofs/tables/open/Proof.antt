@@ -5,7 +5,7 @@ use borrow.Author.Tests.{lt-ltb, le-ltb}
 use borrow.Author.Needs.{needs}
 use Rattle.book.specs.declared.replies.Reply.{Reply}
 use Rattle.book_file.specs.Loading.{opening}
-use Rattle.book_file.proofs.Carrying.{made-broken, call-made}
+use Rattle.book_file.proofs.TaskLoop.{made-broken, call-made}
 use Rattle.book_file.proofs.tables.open.Statement.{statement}
 use Rattle.book_file.proofs.tables.open.Tie as tie
 

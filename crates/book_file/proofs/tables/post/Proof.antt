@@ -2,7 +2,7 @@
 use mathlib.Core.Path.{refl}
 use borrow.Author.Needs.{needs}
 use Rattle.book_file.specs.Loading.{posting}
-use Rattle.book_file.proofs.Carrying.{counted-made}
+use Rattle.book_file.proofs.TaskLoop.{counted-made}
 use Rattle.book_file.proofs.tables.post.Statement.{statement}
 use Rattle.book_file.proofs.tables.post.Tie as tie
 

@@ -5,7 +5,7 @@ use mathlib.Core.Bool.{not}
 use borrow.Author.Tests.{eq-eqb, ne-eqb}
 use borrow.Author.Needs.{needs}
 use Rattle.book_file.specs.Loading.{quoting}
-use Rattle.book_file.proofs.Carrying.{made-broken, counted-made}
+use Rattle.book_file.proofs.TaskLoop.{made-broken, counted-made}
 use Rattle.book_file.proofs.tables.quote.Statement.{statement}
 use Rattle.book_file.proofs.tables.quote.Tie as tie
 

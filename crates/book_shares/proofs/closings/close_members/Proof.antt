@@ -1,4 +1,4 @@
--- `book_shares::closings::close_members` meets its contract: ground 9 decides, and an accepted closing is settled. Assumes
+-- `book_shares::closings::close_members` meets its contract: ground 9 decides, and an accepted closing writes the shares. Assumes
 -- nothing.
 use mathlib.Core.Bool.{Bool, cond}
 use mathlib.Core.Path.{_≡_, ap, sym, _∙_}
@@ -6,7 +6,7 @@ use native.Mathlib.Omega.{arith}
 use borrow.Author.Needs.{needs}
 use Rattle.book_shares.specs.Closing.{closeRefusal, closeBook}
 use Rattle.apportion.proofs.Grounds.{accepted-new}
-use Rattle.book_shares.proofs.Closable.{nine-left}
+use Rattle.book_shares.proofs.CloseAccepted.{nine-left}
 use Rattle.book_shares.proofs.Laws.{close-refused}
 use Rattle.book_shares.proofs.closings.close_members.Statement.{statement}
 use Rattle.book_shares.proofs.closings.close_members.Tie as tie
@@ -38,8 +38,8 @@ returns c =
     let nine = number (c .before) ∙ ap (λ (t : Bool). cond t 9 0) (c .if1 .taken) in
     (sym nine, sym (close-refused (s .args .book .now) (s .args .category) (λ z. omega (arith, nine))))
 
-settle-requires : tie.Need-settle-requires
-settle-requires c κs = (accepted-here (c .before), start (c .before .before) .pre .1)
+close-with-requires : tie.Need-close-with-requires
+close-with-requires c κs = (accepted-here (c .before), start (c .before .before) .pre .1)
 
 same-length-2 : tie.Need-same-length-2
 same-length-2 c = search needs
@@ -49,9 +49,9 @@ unfolding closeBook
 returns-2 c =
     let chosen = c .before .before .before .before in
     let none = accepted-here chosen in
-    (sym none, c .before .before .settle .ensures ∙ sym (accepted-new _ _ (start (chosen .before) .args .book .now) none))
+    (sym none, c .before .before .close-with .ensures ∙ sym (accepted-new _ _ (start (chosen .before) .args .book .now) none))
 
 pub close-members-spec : {M : Type 1} → statement M
 close-members-spec =
     tie.close
-    (tie.spec lacks-elements-requires same-length returns settle-requires same-length-2 returns-2)
+    (tie.spec lacks-elements-requires same-length returns close-with-requires same-length-2 returns-2)

@@ -8,9 +8,9 @@ use lib.Seq.{length-take-le}
 use borrow.Author.Needs.{needs}
 use Rattle.book_shares.specs.Closing.{closeGrounds, closeRefusal}
 use Rattle.apportion.proofs.Grounds.{decided-before}
-use Rattle.book_words.proofs.Facts.{sound-counted}
+use Rattle.book_words.proofs.SoundTests.{sound-counted}
 use Rattle.book_shares.proofs.Laws.{close-refused}
-use Rattle.book_shares.proofs.Listed.{front-taken, members-few}
+use Rattle.book_shares.proofs.MemberSums.{front-taken, members-few}
 use Rattle.book_shares.proofs.closings.close_sound.Statement.{statement}
 use Rattle.book_shares.proofs.closings.close_sound.Tie as tie
 

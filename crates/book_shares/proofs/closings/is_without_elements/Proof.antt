@@ -4,11 +4,11 @@ use borrow.Author.Needs.{needs}
 use Rattle.book_shares.proofs.closings.is_without_elements.Statement.{statement}
 use Rattle.book_shares.proofs.closings.is_without_elements.Tie as tie
 
-activity-among-requires : tie.Need-activity-among-requires
-activity-among-requires c κs = search needs
+activity-at-requires : tie.Need-activity-at-requires
+activity-at-requires c κs = search needs
 
 returns : tie.Need-returns
-returns c = rw (c .activity-among .ensures)
+returns c = rw (c .activity-at .ensures)
 
 pub is-without-elements-spec : {M : Type 1} → statement M
-is-without-elements-spec = tie.close (tie.spec activity-among-requires returns)
+is-without-elements-spec = tie.close (tie.spec activity-at-requires returns)

@@ -8,9 +8,9 @@ use borrow.Author.Tests.{eq-eqb, ne-eqb}
 use borrow.Author.Needs.{needs}
 use Rattle.book_shares.specs.declared.pools.Pools.{Pools}
 use Rattle.book_shares.specs.Closing.{nothingToDivideBy}
-use Rattle.book_shares.specs.Listing.{Listed}
-use Rattle.book_shares.proofs.Closable.{nothing-tested, pool-tested}
-use Rattle.book_shares.proofs.Listed.{listed-served}
+use Rattle.book_shares.specs.Inner.Members.{Listed}
+use Rattle.book_shares.proofs.CloseAccepted.{nothing-tested, pool-tested}
+use Rattle.book_shares.proofs.MemberSums.{listed-served}
 use Rattle.book_shares.proofs.closings.lacks_elements.Statement.{statement}
 use Rattle.book_shares.proofs.closings.lacks_elements.Tie as tie
 
@@ -18,28 +18,28 @@ listed : (s : tie.Start) → Listed (s .args .book .now) (s .args .members .now)
 listed s = record { category = s .args .category; are = s .pre .1 }
 
 -- the start, from before and after the test
-abbrev start : tie.After-passengers-by-mass → tie.Start
+abbrev start : tie.After-mass-at → tie.Start
 start c = c .before .before .before .before
 
-activity-among-requires : tie.Need-activity-among-requires
-activity-among-requires c κs = (c .before .before .pre .0, listed (c .before .before))
+activity-at-requires : tie.Need-activity-at-requires
+activity-at-requires c κs = (c .before .before .pre .0, listed (c .before .before))
 
-passengers-by-mass-requires : tie.Need-passengers-by-mass-requires
-passengers-by-mass-requires c κs = (c .before .before .before .pre .0, listed (c .before .before .before))
+mass-at-requires : tie.Need-mass-at-requires
+mass-at-requires c κs = (c .before .before .before .pre .0, listed (c .before .before .before))
 
 add-if1 : tie.Need-add-if1
 add-if1 c =
     let s = start c in
     let served = listed-served (s .args .book .now) (s .args .members .now) (s .pre .0) (listed s) in
-    omega (arith, served, c .before .activity-among .ensures, c .passengers-by-mass .ensures)
+    omega (arith, served, c .before .activity-at .ensures, c .mass-at .ensures)
 
 -- F and P as the code tests them
-tested : (c : tie.After-passengers-by-mass) → nothingToDivideBy (start c .args .book .now) (start c .args .category)
-    ≡ eqb (c .before .activity-among .result + c .passengers-by-mass .result) 0
+tested : (c : tie.After-mass-at) → nothingToDivideBy (start c .args .book .now) (start c .args .category)
+    ≡ eqb (c .before .activity-at .result + c .mass-at .result) 0
 tested c =
     let s = start c in
-    nothing-tested (s .args .book .now) (s .args .category) (s .args .members .now) (s .pre .1) _ _ (c .before .activity-among .ensures)
-    (c .passengers-by-mass .ensures)
+    nothing-tested (s .args .book .now) (s .args .category) (s .args .members .now) (s .pre .1) _ _ (c .before .activity-at .ensures)
+    (c .mass-at .ensures)
 
 returns : tie.Need-returns
 returns c = rw (tested (c .before), eq-eqb _ 0 (c .if1 .taken))
@@ -79,8 +79,8 @@ pub lacks-elements-spec : {M : Type 1} → statement M
 lacks-elements-spec =
     tie.close
     (tie.spec
-    activity-among-requires
-    passengers-by-mass-requires
+    activity-at-requires
+    mass-at-requires
     add-if1
     returns
     pools-of-requires

@@ -2,19 +2,19 @@
 use native.Mathlib.Omega.{arith}
 use borrow.Author.Needs.{needs}
 use mathlib.Core.List.{[]}
-use Rattle.apportion.specs.Grounds.{groundsBefore}
+use Rattle.apportion.specs.Inner.Grounds.{groundsBefore}
 use Rattle.book_shares.specs.Closing.{closeGroundsIn}
 use Rattle.apportion.proofs.Grounds.{groundsAfter}
-use Rattle.book_words.proofs.Facts.{sound-counted}
-use Rattle.book_words.proofs.Numbered.{category-grounds}
+use Rattle.book_words.proofs.SoundTests.{sound-counted}
+use Rattle.book_words.proofs.NumberedRecords.{category-grounds}
 use Rattle.book_shares.proofs.closings.refusal_number.Statement.{statement}
 use Rattle.book_shares.proofs.closings.refusal_number.Tie as tie
 
 shared-slice-read-categories : tie.Need-shared-slice-read-categories
 shared-slice-read-categories c = omega (arith, sound-counted (c .before .before .args .book .now) (c .before .before .pre))
 
-category-of-requires : tie.Need-category-of-requires
-category-of-requires c κs = search needs
+numbered-category-requires : tie.Need-numbered-category-requires
+numbered-category-requires c κs = search needs
 
 slice-aggregate-first-of : tie.Need-slice-aggregate-first-of
 slice-aggregate-first-of c = search needs
@@ -31,14 +31,14 @@ returns c =
     let s = read .before .before .before in
     let ws = s .args .book .now in
     category-grounds ws (s .args .category) [] (λ k. groundsAfter 2 (groundsBefore 9 (closeGroundsIn ws (s .args .category) k)))
-    (s .pre) (read .category-of .ensures) (c .first-of .ensures)
+    (s .pre) (read .numbered-category .ensures) (c .first-of .ensures)
 
 pub refusal-number-spec : {M : Type 1} → statement M
 refusal-number-spec =
     tie.close
     (tie.spec
     shared-slice-read-categories
-    category-of-requires
+    numbered-category-requires
     slice-aggregate-first-of
     slice-aggregate-first-of-2
     first-of-requires

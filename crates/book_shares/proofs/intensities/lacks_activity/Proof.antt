@@ -5,27 +5,27 @@ use borrow.Author.Needs.{needs}
 use Rattle.book_shares.proofs.intensities.lacks_activity.Statement.{statement}
 use Rattle.book_shares.proofs.intensities.lacks_activity.Tie as tie
 
-activity-among-requires : tie.Need-activity-among-requires
-activity-among-requires c κs = search needs
+activity-at-requires : tie.Need-activity-at-requires
+activity-at-requires c κs = search needs
 
 returns : tie.Need-returns
-returns c = rw (c .activity-among .ensures, eq-eqb _ 100 (c .before .if1 .taken))
+returns c = rw (c .activity-at .ensures, eq-eqb _ 100 (c .before .if1 .taken))
 
-activity-among-requires-2 : tie.Need-activity-among-requires-2
-activity-among-requires-2 c κs = search needs
+activity-at-requires-2 : tie.Need-activity-at-requires-2
+activity-at-requires-2 c κs = search needs
 
-activity-among-requires-3 : tie.Need-activity-among-requires-3
-activity-among-requires-3 c κs = search needs
+activity-at-requires-3 : tie.Need-activity-at-requires-3
+activity-at-requires-3 c κs = search needs
 
 returns-2 : tie.Need-returns-2
-returns-2 c = rw (c .before .activity-among2 .ensures, c .activity-among3 .ensures, ne-eqb _ 100 (c .before .before .if1 .left))
+returns-2 c = rw (c .before .activity-at2 .ensures, c .activity-at3 .ensures, ne-eqb _ 100 (c .before .before .if1 .left))
 
 pub lacks-activity-spec : {M : Type 1} → statement M
 lacks-activity-spec =
     tie.close
     (tie.spec
-    activity-among-requires
+    activity-at-requires
     returns
-    activity-among-requires-2
-    activity-among-requires-3
+    activity-at-requires-2
+    activity-at-requires-3
     returns-2)

@@ -5,11 +5,12 @@ use mathlib.Core.Path.{sym, _∙_, _≡_}
 use native.Mathlib.Omega.{arith}
 use lib.Dec.{ltb}
 use borrow.Author.Needs.{needs}
-use Rattle.book_words.specs.Totals.{operation, provision}
-use Rattle.book_shares.specs.Dealing.{Allowed}
+use Rattle.book_words.specs.declared.totals.Side.the-variants.{Operation as operation, Provision as provision}
+use Rattle.book_shares.specs.Inner.Steps.{Allowed}
 use Rattle.book_shares.specs.Intensities.{intensityRefusal, passesIntensity, lacksActivity, mostResult}
+use Rattle.book_shares.specs.Sums.{activityAmong}
 use Rattle.apportion.proofs.Grounds.{or-none}
-use Rattle.book_shares.proofs.Results.{Early, early, nine, allowed, ten, reply-refused, reply-accepted, uncapped}
+use Rattle.book_shares.proofs.IntensityResults.{Early, early, nine, allowed, ten, reply-refused, reply-accepted, uncapped}
 use Rattle.book_shares.proofs.intensities.measure_members.Statement.{statement}
 use Rattle.book_shares.proofs.intensities.measure_members.Tie as tie
 
@@ -21,7 +22,7 @@ known s = early (s .args .book .now) (s .args .category) (s .args .code) (s .pre
 
 -- ground 9, by the test
 nine-is : (c : tie.After-lacks-activity)
-    → lacksActivity (start c .args .book .now) (start c .args .category) (start c .args .code) ≡ c .lacks-activity .result
+    → lacksActivity (activityAmong (start c .args .book .now) (start c .args .category)) (start c .args .code) ≡ c .lacks-activity .result
 nine-is c =
     let s = start c in
     sym (nine (s .args .book .now) (s .args .category) (s .args .code) (s .args .members .now) (s .pre .1)) ∙ sym (c .lacks-activity .ensures)

@@ -5,12 +5,13 @@ use borrow.Author.Needs.{needs}
 use Rattle.book_words.specs.Book.{categoryOf}
 use Rattle.book_words.specs.declared.records.Category.{Category}
 use Rattle.book_shares.specs.declared.pools.Pools.{Pools}
-use Rattle.book_shares.specs.Dealing.{sideAt, scaleTens, partsOf}
-use Rattle.book_shares.specs.Listing.{Listed}
-use Rattle.book_words.proofs.Numbered.{category-there}
-use Rattle.book_shares.proofs.Bounds.{pool-limited}
-use Rattle.book_shares.proofs.Dealt.{parts-found}
-use Rattle.book_shares.proofs.Results.{all-there, passengers-there, passengers-result, freight-there, freight-result, group-there, group-result}
+use Rattle.book_shares.specs.Inner.Steps.{scaleTens}
+use Rattle.book_shares.specs.Inner.Members.{Listed}
+use Rattle.book_words.proofs.NumberedRecords.{category-there}
+use Rattle.book_shares.proofs.ClosingShares.{partsOf}
+use Rattle.book_shares.proofs.SumBounds.{pool-limited}
+use Rattle.book_shares.proofs.PartsAdded.{parts-found}
+use Rattle.book_shares.proofs.IntensityResults.{all-there, passengers-there, passengers-result, freight-there, freight-result, group-there, group-result}
 use Rattle.book_shares.proofs.intensities.result.Statement.{statement}
 use Rattle.book_shares.proofs.intensities.result.Tie as tie
 
@@ -25,17 +26,17 @@ abbrev later : tie.After-scale-tens → tie.After-divide-all
 later c = c .before .before .before
 
 parts-are : (c : tie.After-divide-all)
-    → c .divide-all .result ≡ partsOf (start c .args .book .now) (start c .args .category) (sideAt (start c .args .stage))
+    → c .divide-all .result ≡ partsOf (start c .args .book .now) (start c .args .category) (start c .args .side)
 parts-are c =
     let s = start c in
-    parts-found (s .args .book .now) (s .args .category) (sideAt (s .args .stage)) (s .args .members .now) (s .pre .1) _ _
+    parts-found (s .args .book .now) (s .args .category) (s .args .side) (s .args .members .now) (s .pre .1) _ _
     (c .before .pools-of .ensures) (c .divide-all .ensures)
 
 tens-are : (c : tie.After-scale-tens)
     → c .scale-tens .result ≡ scaleTens (categoryOf (start (later c) .args .book .now) (start (later c) .args .category) .kind)
 tens-are c =
     let s = start (later c) in
-    let read = category-there (s .args .book .now) (s .args .category) _ (c .before .category-of .ensures) (s .pre .0 .numbered) in
+    let read = category-there (s .args .book .now) (s .args .category) _ (c .before .numbered-category .ensures) (s .pre .0 .numbered) in
     c .scale-tens .ensures ∙ ap (λ (r : Category). scaleTens (r .kind)) read
 
 pools-of-requires : tie.Need-pools-of-requires
@@ -45,7 +46,7 @@ divide-all-requires : tie.Need-divide-all-requires
 divide-all-requires c κs =
     let s = c .before .before .before in
     let all = ap (λ (q : Pools). q .all) (c .pools-of .ensures) in
-    let limit = pool-limited (s .args .book .now) (s .pre .0 .fine) (s .args .category) 0 (sideAt (s .args .stage)) in
+    let limit = pool-limited (s .args .book .now) (s .pre .0 .fine) (s .args .category) 0 (s .args .side) in
     (s .pre .0 .fine, (listed s, (omega (arith, all, limit), all-there (s .pre .0) (s .pre .1))))
 
 per-activity-requires : tie.Need-per-activity-requires
@@ -56,11 +57,11 @@ per-activity-requires c κs =
 returns : tie.Need-returns
 returns c =
     let s = start (c .before .before) in
-    passengers-result (s .pre .0) (s .pre .1) (sideAt (s .args .stage)) (parts-are (c .before .before)) _ (c .before .if1 .taken)
+    passengers-result (s .pre .0) (s .pre .1) (s .args .side) (parts-are (c .before .before)) _ (c .before .if1 .taken)
     (c .per-activity .ensures)
 
-category-of-requires : tie.Need-category-of-requires
-category-of-requires c κs = search needs
+numbered-category-requires : tie.Need-numbered-category-requires
+numbered-category-requires c κs = search needs
 
 scale-tens-requires : tie.Need-scale-tens-requires
 scale-tens-requires c κs = search needs
@@ -74,7 +75,7 @@ returns-2 : tie.Need-returns-2
 returns-2 c =
     let scaled = c .before .before in
     let s = start (later scaled) in
-    freight-result (s .pre .0) (s .pre .1) (sideAt (s .args .stage)) (parts-are (later scaled)) (scaled .before .before .if1 .left)
+    freight-result (s .pre .0) (s .pre .1) (s .args .side) (parts-are (later scaled)) (scaled .before .before .if1 .left)
     (tens-are scaled) (c .before .per-activity2 .ensures) (c .if2 .taken)
 
 group-pool-requires : tie.Need-group-pool-requires
@@ -94,7 +95,7 @@ returns-3 c =
     let other = c .before .before .before in
     let scaled = other .before .before in
     let s = start (later scaled) in
-    group-result (s .pre .0) (s .pre .1) (sideAt (s .args .stage)) (parts-are (later scaled)) (scaled .before .before .if1 .left)
+    group-result (s .pre .0) (s .pre .1) (s .args .side) (parts-are (later scaled)) (scaled .before .before .if1 .left)
     (tens-are scaled) (other .before .per-activity2 .ensures) _ _ _ _ (other .if2 .left) (later scaled .before .pools-of .ensures)
     (c .before .before .group-pool .ensures) (c .before .per-activity3 .ensures) (c .add .ensures)
 
@@ -106,7 +107,7 @@ result-spec =
     divide-all-requires
     per-activity-requires
     returns
-    category-of-requires
+    numbered-category-requires
     scale-tens-requires
     per-activity-requires-2
     returns-2

@@ -9,11 +9,11 @@ use lib.ListN.{length}
 use borrow.Author.Needs.{needs}
 use Rattle.apportion.specs.Places.{keptBelow, oneIf}
 use Rattle.book_words.specs.Book.{elements}
-use Rattle.book_shares.specs.Listing.{isMember, members, startingWith}
-use Rattle.apportion.proofs.Omitting.{kept-length}
+use Rattle.book_shares.specs.Inner.Members.{isMember, members, startingWith}
+use Rattle.apportion.proofs.PlacesLeftOut.{kept-length}
 use Rattle.apportion.proofs.Sums.{count-most}
-use Rattle.book_words.proofs.Facts.{sound-counted}
-use Rattle.book_shares.proofs.Listed.{front-grown, front-length}
+use Rattle.book_words.proofs.SoundTests.{sound-counted}
+use Rattle.book_shares.proofs.MemberSums.{front-grown, front-length}
 use Rattle.book_shares.proofs.listing.list_members.Statement.{statement}
 use Rattle.book_shares.proofs.listing.list_members.Tie as tie
 

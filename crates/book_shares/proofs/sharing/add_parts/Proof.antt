@@ -5,7 +5,7 @@ use native.Mathlib.Omega.{arith}
 use lib.ListN.{length}
 use borrow.Author.Needs.{needs}
 use Rattle.apportion.specs.Places.{at}
-use Rattle.book_shares.proofs.Filling.{Filling, filling-start, filling-length, filling-here, filling-next, filling-done}
+use Rattle.book_shares.proofs.FilledFront.{Filling, filling-start, filling-length, filling-here, filling-next, filling-done}
 use Rattle.book_shares.proofs.sharing.add_parts.Statement.{statement}
 use Rattle.book_shares.proofs.sharing.add_parts.Tie as tie
 

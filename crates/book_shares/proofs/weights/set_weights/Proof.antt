@@ -7,17 +7,18 @@ use lib.ListN.{length}
 use borrow.Author.Needs.{needs}
 use Rattle.apportion.specs.Places.{at}
 use Rattle.book_words.specs.Book.{elementAt}
-use Rattle.book_shares.specs.Listing.{taking, weightsAt}
-use Rattle.book_shares.proofs.Filling.{Filling, filling-start, filling-length, filling-next, filling-done}
+use Rattle.book_shares.specs.declared.weights.Measure.the-variants.{Activity}
+use Rattle.book_shares.specs.Inner.Members.{measureOf, weightsAt}
+use Rattle.book_shares.proofs.FilledFront.{Filling, filling-start, filling-length, filling-next, filling-done}
 use Rattle.book_shares.proofs.weights.set_weights.Statement.{statement}
 use Rattle.book_shares.proofs.weights.set_weights.Tie as tie
 
 abbrev Inv-loop : tie.InvT-loop
-Inv-loop book members takers weights₀ next₀ weights next =
-    Filling (λ i. taking takers (λ e. e .activity) (elementAt book (at members i))) weights₀ next weights
+Inv-loop book members recipients weights₀ next₀ weights next =
+    Filling (λ i. measureOf (Activity recipients) (elementAt book (at members i))) weights₀ next weights
 
 abbrev μ-loop : tie.MeasureT-loop
-μ-loop book members takers weights₀ next₀ weights next = length members - next
+μ-loop book members recipients weights₀ next₀ weights next = length members - next
 
 loop-holds : tie.Need-loop-holds Inv-loop μ-loop
 loop-holds c = filling-start _ _
@@ -45,7 +46,7 @@ loop-again c =
     let turn = c .before .before in
     let s = turn .before .before .before .before .before in
     filling-next (turn .before .loop .inv) _ (omega (arith, s .pre .1 .1, turn .loop-test .taken))
-    (c .weight .ensures ∙ ap (taking (s .args .takers) (λ e. e .activity)) (c .before .member .ensures))
+    (c .weight .ensures ∙ ap (measureOf (Activity (s .args .recipients))) (c .before .member .ensures))
 
 same-length : tie.Need-same-length Inv-loop μ-loop
 same-length c = filling-length (c .before .loop .inv)

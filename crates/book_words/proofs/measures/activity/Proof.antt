@@ -4,8 +4,8 @@ use native.Mathlib.Nat.{add-zero}
 use borrow.Author.Needs.{needs}
 use borrow.Author.Tests.{lt-leb, le-leb, eq-eqb, ne-eqb}
 use Rattle.book_words.specs.Measures.{activityOf}
-use Rattle.book_words.specs.Totals.{capped}
-use Rattle.book_words.proofs.Capping.{capped-times}
+use Rattle.book_words.specs.Inner.Steps.{capped}
+use Rattle.book_words.proofs.CappedSums.{capped-times}
 use Rattle.book_words.proofs.measures.activity.Statement.{statement}
 use Rattle.book_words.proofs.measures.activity.Tie as tie
 

@@ -5,7 +5,7 @@ use native.Mathlib.Omega.{arith}
 use lib.ListN.{length}
 use borrow.Author.Tests.{ne-eqb}
 use Rattle.book_words.specs.Book.{bookLength}
-use Rattle.book_words.proofs.Facts.{past-header}
+use Rattle.book_words.proofs.SoundTests.{past-header}
 use Rattle.book_words.proofs.soundness.count_in.Statement.{statement}
 use Rattle.book_words.proofs.soundness.count_in.Tie as tie
 

@@ -3,7 +3,7 @@
 use mathlib.Core.Path.{_∙_}
 use native.Mathlib.Omega.{arith}
 use borrow.Author.Needs.{needs}
-use Rattle.book_words.proofs.Rules.{element-quoted, element-unnumbered, element-numbered}
+use Rattle.book_words.proofs.RecordRules.{element-quoted, element-unnumbered, element-numbered}
 use Rattle.book_words.proofs.soundness.element_fine.Statement.{statement}
 use Rattle.book_words.proofs.soundness.element_fine.Tie as tie
 

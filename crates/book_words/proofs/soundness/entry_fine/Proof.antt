@@ -8,7 +8,7 @@ use borrow.Author.Tests.{not-false}
 use Rattle.book_words.specs.Book.{categories}
 use Rattle.book_words.specs.Measures.{between}
 use Rattle.book_words.proofs.Ranges.{between-low, place-inside}
-use Rattle.book_words.proofs.Rules.{entry-unnumbered, entry-numbered}
+use Rattle.book_words.proofs.RecordRules.{entry-unnumbered, entry-numbered}
 use Rattle.book_words.proofs.soundness.entry_fine.Statement.{statement}
 use Rattle.book_words.proofs.soundness.entry_fine.Tie as tie
 

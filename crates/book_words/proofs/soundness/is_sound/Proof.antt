@@ -6,10 +6,10 @@ use Prim.Native.Nat.{_-_, _≤_, _<_}
 use native.Mathlib.Omega.{arith}
 use borrow.Author.Needs.{needs}
 use borrow.Author.Tests.{not-false, not-true}
-use Rattle.book_words.specs.Parts.{countIn, recordFine, listFine}
+use Rattle.book_words.specs.Inner.Steps.{countIn, recordFine, listFine}
 use Rattle.book_words.specs.Soundness.{allBelow}
-use Rattle.book_words.proofs.Every.{every-next, every-not}
-use Rattle.book_words.proofs.Facts.{lists-sound}
+use Rattle.book_words.proofs.EveryPlace.{every-next, every-not}
+use Rattle.book_words.proofs.SoundTests.{lists-sound}
 use Rattle.book_words.proofs.soundness.is_sound.Statement.{statement}
 use Rattle.book_words.proofs.soundness.is_sound.Tie as tie
 

@@ -3,8 +3,8 @@ use mathlib.Core.Path.{_≡_}
 use Prim.Native.Nat.{_<_}
 use native.Mathlib.Omega.{arith}
 use borrow.Author.Needs.{needs}
-use Rattle.book_words.specs.Parts.{CountsWithin}
-use Rattle.book_words.proofs.Facts.{past-header, past-sums}
+use Rattle.book_words.specs.Inner.Steps.{CountsWithin}
+use Rattle.book_words.proofs.SoundTests.{past-header, past-sums}
 use Rattle.book_words.proofs.soundness.record_fine.Statement.{statement}
 use Rattle.book_words.proofs.soundness.record_fine.Tie as tie
 

@@ -2,7 +2,7 @@
 use borrow.Author.Needs.{needs}
 use Rattle.book_words.specs.Soundness.{sumsFine}
 use Rattle.book_words.specs.Totals.{sumsOf}
-use Rattle.book_words.proofs.Capping.{sums-within}
+use Rattle.book_words.proofs.CappedSums.{sums-within}
 use Rattle.book_words.proofs.soundness.sums_fine.Statement.{statement}
 use Rattle.book_words.proofs.soundness.sums_fine.Tie as tie
 

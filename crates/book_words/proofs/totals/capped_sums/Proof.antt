@@ -6,10 +6,11 @@ use native.Mathlib.Nat.{add-assoc}
 use native.Mathlib.Omega.{arith}
 use borrow.Author.Needs.{needs}
 use Rattle.book_words.specs.Book.{entries, elements}
-use Rattle.book_words.specs.Parts.{sumsBelow}
-use Rattle.book_words.specs.Totals.{allUnstruck, sharesOf, activities, capSums}
+use Rattle.book_words.specs.Inner.Steps.{sumsBelow}
+use Rattle.book_words.specs.Totals.{allUnstruck, sharesOf, activities}
+use Rattle.book_words.specs.Inner.Steps.{capSums}
 use Rattle.apportion.proofs.Sums.{sum-next}
-use Rattle.book_words.proofs.Capping.{capped-add}
+use Rattle.book_words.proofs.CappedSums.{capped-add}
 use Rattle.book_words.proofs.totals.capped_sums.Statement.{statement}
 use Rattle.book_words.proofs.totals.capped_sums.Tie as tie
 
@@ -31,8 +32,8 @@ loop-holds c = (omega arith, c .entry-sums .ensures)
 read-element-requires : tie.Need-read-element-requires Inv-loop μ-loop
 read-element-requires c κs = search needs
 
-with-element-requires : tie.Need-with-element-requires Inv-loop μ-loop
-with-element-requires c κs = search needs
+capped-with-element-requires : tie.Need-capped-with-element-requires Inv-loop μ-loop
+capped-with-element-requires c κs = search needs
 
 add-place : tie.Need-add-place Inv-loop μ-loop
 add-place c = search needs
@@ -43,7 +44,7 @@ loop-less c = omega arith
 loop-again : tie.Need-loop-again Inv-loop μ-loop
 loop-again c =
     let so-far = c .before .before .before .loop .inv .1 in
-    (omega arith, rw (c .with-element .ensures, c .before .read-element .ensures, so-far) (simp (capped-add, sum-next, add-assoc)))
+    (omega arith, rw (c .capped-with-element .ensures, c .before .read-element .ensures, so-far) (simp (capped-add, sum-next, add-assoc)))
 
 returns : tie.Need-returns Inv-loop μ-loop
 unfolding allUnstruck sharesOf activities
@@ -61,7 +62,7 @@ capped-sums-spec =
     entry-sums-requires
     loop-holds
     read-element-requires
-    with-element-requires
+    capped-with-element-requires
     add-place
     loop-less
     loop-again

@@ -6,10 +6,10 @@ use native.Mathlib.Nat.{add-zero}
 use native.Mathlib.Omega.{arith}
 use borrow.Author.Needs.{needs}
 use Rattle.book_words.specs.Book.{entries}
-use Rattle.book_words.specs.Parts.{sumsBelow}
-use Rattle.book_words.specs.Totals.{capSums}
+use Rattle.book_words.specs.Inner.Steps.{sumsBelow}
+use Rattle.book_words.specs.Inner.Steps.{capSums}
 use Rattle.apportion.proofs.Sums.{sum-next}
-use Rattle.book_words.proofs.Capping.{capped-add}
+use Rattle.book_words.proofs.CappedSums.{capped-add}
 use Rattle.book_words.proofs.totals.entry_sums.Statement.{statement}
 use Rattle.book_words.proofs.totals.entry_sums.Tie as tie
 
@@ -28,8 +28,8 @@ loop-holds c = (omega arith, refl)
 read-entry-requires : tie.Need-read-entry-requires Inv-loop μ-loop
 read-entry-requires c κs = search needs
 
-with-entry-requires : tie.Need-with-entry-requires Inv-loop μ-loop
-with-entry-requires c κs = search needs
+capped-with-entry-requires : tie.Need-capped-with-entry-requires Inv-loop μ-loop
+capped-with-entry-requires c κs = search needs
 
 add-place : tie.Need-add-place Inv-loop μ-loop
 add-place c = search needs
@@ -40,7 +40,7 @@ loop-less c = omega arith
 loop-again : tie.Need-loop-again Inv-loop μ-loop
 loop-again c =
     let so-far = c .before .before .before .loop .inv .1 in
-    (omega arith, rw (c .with-entry .ensures, c .before .read-entry .ensures, so-far) (simp (capped-add, sum-next, add-zero)))
+    (omega arith, rw (c .capped-with-entry .ensures, c .before .read-entry .ensures, so-far) (simp (capped-add, sum-next, add-zero)))
 
 returns : tie.Need-returns Inv-loop μ-loop
 returns c =
@@ -56,7 +56,7 @@ entry-sums-spec =
     shared-slice-read-count
     loop-holds
     read-entry-requires
-    with-entry-requires
+    capped-with-entry-requires
     add-place
     loop-less
     loop-again

@@ -4,7 +4,7 @@ use Prim.Native.Nat.{_<_}
 use native.Mathlib.Nat.{mul-zero}
 use native.Mathlib.Omega.{arith}
 use borrow.Author.Needs.{needs}
-use Rattle.book_words.proofs.Capping.{product-over, product-within}
+use Rattle.book_words.proofs.CappedSums.{product-over, product-within}
 use Rattle.book_words.proofs.totals.multiply.Statement.{statement}
 use Rattle.book_words.proofs.totals.multiply.Tie as tie
 

@@ -1,8 +1,8 @@
 -- `book_words::totals::sums_of` meets its contract: the sums of a sound book are not capped. Assumes nothing.
 use mathlib.Core.Path.{_∙_}
 use Rattle.book_words.specs.Totals.{sumsOf}
-use Rattle.book_words.proofs.Capping.{sums-exact}
-use Rattle.book_words.proofs.Facts.{sound-counted, sound-sums}
+use Rattle.book_words.proofs.CappedSums.{sums-exact}
+use Rattle.book_words.proofs.SoundTests.{sound-counted, sound-sums}
 use Rattle.book_words.proofs.totals.sums_of.Statement.{statement}
 use Rattle.book_words.proofs.totals.sums_of.Tie as tie
 

@@ -3,14 +3,14 @@ use borrow.Author.Needs.{needs}
 use Rattle.book_words.proofs.totals.unstruck_in.Statement.{statement}
 use Rattle.book_words.proofs.totals.unstruck_in.Tie as tie
 
-unstruck-requires : tie.Need-unstruck-requires
-unstruck-requires c κs = search needs
+unstruck-amounts-requires : tie.Need-unstruck-amounts-requires
+unstruck-amounts-requires c κs = search needs
 
 amounts-where-requires : tie.Need-amounts-where-requires
 amounts-where-requires c κs = search needs
 
 returns : tie.Need-returns
-returns c = rw (c .amounts-where .ensures, c .before .unstruck .ensures)
+returns c = rw (c .amounts-where .ensures, c .before .unstruck-amounts .ensures)
 
 pub unstruck-in-spec : {M : Type 1} → statement M
-unstruck-in-spec = tie.close (tie.spec unstruck-requires amounts-where-requires returns)
+unstruck-in-spec = tie.close (tie.spec unstruck-amounts-requires amounts-where-requires returns)

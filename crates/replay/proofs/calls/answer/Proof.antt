@@ -4,7 +4,7 @@ use mathlib.Core.List.{[], _∷_}
 use lib.Dec.{eqb}
 use borrow.Author.Tests.{ne-eqb}
 use Rattle.replay.specs.Answers.{answered}
-use Rattle.replay.proofs.Runs.{reply-numbers}
+use Rattle.replay.proofs.OperationTests.{reply-numbers}
 use borrow.Author.Needs.{needs}
 use Rattle.replay.proofs.calls.answer.Statement.{statement}
 use Rattle.replay.proofs.calls.answer.Tie as tie

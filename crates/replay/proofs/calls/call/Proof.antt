@@ -3,7 +3,7 @@ use native.Mathlib.Omega.{arith}
 use mathlib.Core.Path.{sym, _∙_}
 use borrow.Author.Needs.{needs}
 use lib.Seq.{length-take-le}
-use Rattle.replay.proofs.Runs.{call-returned}
+use Rattle.replay.proofs.OperationTests.{call-returned}
 use Rattle.replay.proofs.calls.call.Statement.{statement}
 use Rattle.replay.proofs.calls.call.Tie as tie
 

@@ -5,8 +5,8 @@ use borrow.Author.Needs.{needs}
 use borrow.Author.Tests.{lt-leb}
 use lib.ListN.{length-take}
 use lib.Seq.{length-take-le}
-use Rattle.replay.specs.Replay.{room, dividedRun}
-use Rattle.replay.proofs.Runs.{divide-good}
+use Rattle.replay.specs.Replay.{room, divisionDone}
+use Rattle.replay.proofs.OperationTests.{divide-good}
 use Rattle.replay.proofs.memory.divide.Statement.{statement}
 use Rattle.replay.proofs.memory.divide.Tie as tie
 
@@ -14,7 +14,7 @@ bad-requires : tie.Need-bad-requires
 bad-requires c κs = search needs
 
 returns : tie.Need-returns
-unfolding dividedRun
+unfolding divisionDone
 returns c file = rw (lt-leb _ room (c .before .if1 .taken)) (c .bad .ensures _ file _)
 
 least-requires : tie.Need-least-requires

@@ -1,6 +1,6 @@
 -- `replay::memory::print_division` meets its contract. Assumes nothing.
 use borrow.Author.Needs.{needs}
-use Rattle.replay.proofs.Runs.{division-line}
+use Rattle.replay.proofs.OperationTests.{division-line}
 use Rattle.replay.proofs.memory.print_division.Statement.{statement}
 use Rattle.replay.proofs.memory.print_division.Tie as tie
 

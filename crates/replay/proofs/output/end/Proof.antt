@@ -40,7 +40,7 @@ returns-2 c memory file =
     let put = c .before .before .before .before .before in
     let test = put .before .before .before .before in
     let state = test .before .before .before .args .state in
-    ap (λ (stage : Stage). stage .run) (c .print .ensures memory file)
+    ap (λ (stage : Stage). stage .machine) (c .print .ensures memory file)
     ∙ rw (test .if1 .left, ← one-more (state .good), put-bad-line, put .put-bytes .ensures)
 
 pub end-spec : {M : Type 1} → statement M

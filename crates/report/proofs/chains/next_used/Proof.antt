@@ -2,8 +2,8 @@
 use Prim.Native.Nat.{_-_, _≤_}
 use native.Mathlib.Omega.{arith}
 use mathlib.Core.Logic.{⊎-elim}
-use Rattle.book_words.specs.Parts.{CountsWithin}
-use Rattle.book_words.proofs.Facts.{sound-counted}
+use Rattle.book_words.specs.Inner.Steps.{CountsWithin}
+use Rattle.book_words.proofs.SoundTests.{sound-counted}
 use Rattle.report.proofs.Used.{Seen, seen-start, seen-nearer, seen-other, seen-all}
 use Rattle.report.proofs.chains.next_used.Statement.{statement}
 use Rattle.report.proofs.chains.next_used.Tie as tie

@@ -2,8 +2,8 @@
 use Prim.Native.Nat.{ℕ}
 use mathlib.Core.List.{List}
 use borrow.Author.Needs.{needs}
-use Rattle.report.specs.Sheet.{refusedText, refusedRoom}
-use Rattle.report.proofs.Laws.{answer-unrefused}
+use Rattle.report.specs.Sheet.{refusedText}
+use Rattle.report.specs.Inner.Steps.{refusedRoom}
 use Rattle.report.proofs.Lines.{refused-fits}
 use Rattle.report.proofs.Stores.{Front, in-room}
 use Rattle.report.proofs.refusals.refusal_line.Statement.{statement}
@@ -27,19 +27,18 @@ written c = in-room refusedRoom (c .write-refused .ensures .1) (c .write-refused
 array-share-prefix-room : tie.Need-array-share-prefix-room
 array-share-prefix-room c = written (c .before) .inside
 
-slice-aggregate-hand-over : tie.Need-slice-aggregate-hand-over
-slice-aggregate-hand-over c = written (c .before .before) .counted
+slice-aggregate-print-text : tie.Need-slice-aggregate-print-text
+slice-aggregate-print-text c = written (c .before .before) .counted
 
-hand-over-requires : tie.Need-hand-over-requires
-hand-over-requires c κs = search needs
+print-text-requires : tie.Need-print-text-requires
+print-text-requires c κs = search needs
 
 same-length : tie.Need-same-length
 same-length c = search needs
 
 returns : tie.Need-returns
 returns c =
-    let over = c .before .before .hand-over .ensures in
-    rw (← written (c .before .before .before .before .before .before) .is-text) (over .0, (answer-unrefused _ _ _ (over .0), over .1))
+    rw (← written (c .before .before .before .before .before .before) .is-text) (c .before .before .print-text .ensures)
 
 pub refusal-line-spec : {M : Type 1} → statement M
 refusal-line-spec =
@@ -48,7 +47,7 @@ refusal-line-spec =
     slice-aggregate-write-refused
     write-refused-requires
     array-share-prefix-room
-    slice-aggregate-hand-over
-    hand-over-requires
+    slice-aggregate-print-text
+    print-text-requires
     same-length
     returns)

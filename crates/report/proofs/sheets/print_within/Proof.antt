@@ -22,18 +22,18 @@ written c = in-room sheetRoom (c .write-sheet .ensures .1) (c .write-sheet .ensu
 array-share-prefix-room : tie.Need-array-share-prefix-room
 array-share-prefix-room c = written (c .before) .inside
 
-slice-aggregate-hand-over : tie.Need-slice-aggregate-hand-over
-slice-aggregate-hand-over c = written (c .before .before) .counted
+slice-aggregate-print-text : tie.Need-slice-aggregate-print-text
+slice-aggregate-print-text c = written (c .before .before) .counted
 
-hand-over-requires : tie.Need-hand-over-requires
-hand-over-requires c κs = search needs
+print-text-requires : tie.Need-print-text-requires
+print-text-requires c κs = search needs
 
 same-length : tie.Need-same-length
 same-length c = search needs
 
 returns : tie.Need-returns
 returns c =
-    rw (← written (c .before .before .before .before .before .before) .is-text) (c .before .before .hand-over .ensures)
+    rw (← written (c .before .before .before .before .before .before) .is-text) (c .before .before .print-text .ensures)
 
 pub print-within-spec : {M : Type 1} → statement M
 print-within-spec =
@@ -42,7 +42,7 @@ print-within-spec =
     slice-aggregate-write-sheet
     write-sheet-requires
     array-share-prefix-room
-    slice-aggregate-hand-over
-    hand-over-requires
+    slice-aggregate-print-text
+    print-text-requires
     same-length
     returns)

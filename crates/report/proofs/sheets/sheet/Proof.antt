@@ -3,7 +3,7 @@ use mathlib.Core.Path.{sym, _∙_}
 use borrow.Author.Needs.{needs}
 use borrow.Author.Tests.{not-true, not-false}
 use lib.ListN.{length}
-use Rattle.report.proofs.Laws.{sheet-refused, sheet-unprinted, answer-refusal}
+use Rattle.report.proofs.Laws.{sheet-refused, sheet-unprinted, sheet-numbers}
 use Rattle.report.proofs.sheets.sheet.Statement.{statement}
 use Rattle.report.proofs.sheets.sheet.Tie as tie
 
@@ -16,7 +16,7 @@ returns c =
     let a = tested .before .before .before .args in
     let unsound = sym (tested .is-sound .ensures) ∙ not-true (tested .is-sound .result) (c .if1 .taken) in
     let answered = sym (sheet-refused (a .book .now) (length (a .out .now)) unsound) in
-    (answered, (answer-refusal (a .book .now) (length (a .out .now)) _ answered, sym (sheet-unprinted (a .book .now) (a .out .now) unsound)))
+    (answered, (sheet-numbers (a .book .now) (length (a .out .now)) _ answered, sym (sheet-unprinted (a .book .now) (a .out .now) unsound)))
 
 sheet-sound-requires : tie.Need-sheet-sound-requires
 sheet-sound-requires c κs = sym (c .before .before .is-sound .ensures) ∙ not-false (c .before .before .is-sound .result) (c .before .if1 .left)

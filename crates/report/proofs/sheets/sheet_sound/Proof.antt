@@ -31,7 +31,8 @@ same-length-2 c = search needs
 returns-2 : tie.Need-returns-2
 returns-2 c =
     let start = c .before .before .before .before .before .before .before in
-    sheet-given (start .args .book .now) (start .args .out .now) (start .pre) (c .before .before .print-within .ensures)
+    let within = c .before .before .print-within .ensures in
+    sheet-given (start .args .book .now) (start .args .out .now) (start .pre) (within .0, within .1 .1)
 
 pub sheet-sound-spec : {M : Type 1} → statement M
 sheet-sound-spec =

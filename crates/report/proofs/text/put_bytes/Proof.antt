@@ -3,7 +3,7 @@ use Prim.Native.Nat.{_-_}
 use native.Mathlib.Omega.{arith}
 use borrow.Author.Needs.{needs}
 use lib.ListN.{length}
-use Rattle.book_words.proofs.Writes.{Storing, storing-start, storing-next, storing-done}
+use Rattle.book_words.proofs.WordsAfterWrite.{Storing, storing-start, storing-next, storing-done}
 use Rattle.report.proofs.text.put_bytes.Statement.{statement}
 use Rattle.report.proofs.text.put_bytes.Tie as tie
 

@@ -1,0 +1,26 @@
+-- `book_shares::weights::receives` meets its contract: the test of each case. Assumes nothing.
+use borrow.Author.Needs.{needs}
+use Rattle.book_shares.proofs.weights.receives.Statement.{statement}
+use Rattle.book_shares.proofs.weights.receives.Tie as tie
+
+enum-told : tie.Need-enum-told
+enum-told c = search needs
+
+enum-told-2 : tie.Need-enum-told-2
+enum-told-2 c = search needs
+
+enum-known-recipients : tie.Need-enum-known-recipients
+enum-known-recipients c = search needs
+
+returns : tie.Need-returns
+returns c = rw (c .enum-told .given .1)
+
+returns-2 : tie.Need-returns-2
+returns-2 c = rw (c .enum-told2 .given .1)
+
+returns-3 : tie.Need-returns-3
+returns-3 c = rw (c .before .recipients .given .1)
+
+pub receives-spec : {M : Type 1} → statement M
+receives-spec =
+    tie.close (tie.spec enum-told enum-told-2 enum-known-recipients returns returns-2 returns-3)

@@ -1,0 +1,1 @@
+"""The separate calculation: the rules of document 01 by exact integers."""

@@ -1,0 +1,235 @@
+#!/usr/bin/env python3
+"""Plays a list of records by the separate calculation.
+
+    python3 tools/calculation/player.py < stdin > stdout
+
+A record is 64 bytes: eight little-endian 64-bit words, the operation and
+seven arguments. An operation ignores the arguments that it does not use.
+
+The bytes of a file that is to be loaded come in the records after the one
+that says so, the last of them padded to a whole record.
+"""
+
+import os
+import struct
+import sys
+
+sys.path.insert(0, os.path.dirname(os.path.dirname(os.path.abspath(__file__))))
+
+from calculation import calls, dividing, loading
+
+RECORD = struct.Struct("<8Q")
+
+MOST_LISTED = 300  # room in the list of weights, and the longest share slice
+UNWRITTEN = 7      # what every word of a share slice holds before the call
+MOST_WORDS = 3000  # the array that the book lies in
+MOST_BYTES = 16_448  # of a file: one record more than a file may have
+
+
+class BadRecord(Exception):
+    """The record is none that can be played."""
+
+
+class State:
+    """What one record leaves for the next."""
+
+    def __init__(self):
+        self.weights = []
+        self.words = [0] * MOST_WORDS
+        self.lent = MOST_WORDS  # how many of the words a call gets
+        self.file = None        # the file whose bytes are still coming
+
+
+class ComingFile:
+    """The bytes of a file so far."""
+
+    def __init__(self, length):
+        self.length = length
+        self.come = b""
+
+    def is_whole(self):
+        return len(self.come) >= self.length
+
+    def data(self):
+        """Its bytes without the padding."""
+        return self.come[:self.length]
+
+
+# Each operation takes the state and the seven arguments. It returns the
+# numbers of its line, or None where it prints nothing.
+
+def used_arguments(name, arguments):
+    """Those of the seven that a call uses."""
+    return arguments[:calls.CALLS[name].arguments]
+
+
+def call_of_book(name):
+    """The operation that makes a call on the lent words."""
+    def operation(state, arguments):
+        lent = state.words[:state.lent]
+        numbers = calls.make(name, lent, *used_arguments(name, arguments))
+        state.words[:state.lent] = lent
+        return numbers
+    return operation
+
+
+def divide(state, arguments):
+    pool, share_count = arguments[:2]
+    if share_count > MOST_LISTED:
+        raise BadRecord
+    refusal, shares = dividing.divide(pool, state.weights, share_count)
+    if shares is None:
+        shares = [UNWRITTEN] * share_count
+    state.weights = []
+    return [refusal] + shares
+
+
+def append_weight(state, arguments):
+    if len(state.weights) == MOST_LISTED:
+        raise BadRecord
+    state.weights.append(arguments[0])
+    return None
+
+
+def poke(state, arguments):
+    index, value = arguments[:2]
+    if index >= MOST_WORDS:
+        raise BadRecord
+    state.words[index] = value
+    return None
+
+
+def lend(state, arguments):
+    if arguments[0] > MOST_WORDS:
+        raise BadRecord
+    state.lent = arguments[0]
+    return None
+
+
+def dump(state, arguments):
+    first, count = arguments[:2]
+    if first + count > MOST_WORDS:
+        raise BadRecord
+    return state.words[first:first + count]
+
+
+def load(state, arguments):
+    if arguments[0] > MOST_BYTES:
+        raise BadRecord
+    state.file = ComingFile(arguments[0])
+    return load_whole_file(state)
+
+
+def take_bytes(state, record):
+    """A record of bytes, while a file is coming."""
+    state.file.come += record
+    return load_whole_file(state)
+
+
+def load_whole_file(state):
+    """Loads the file when all its bytes have come."""
+    if not state.file.is_whole():
+        return None
+    lent = state.words[:state.lent]
+    numbers = loading.load(lent, state.file.data())
+    state.words[:state.lent] = lent
+    state.file = None
+    return list(numbers)
+
+
+FRESH, OPEN, POST, STRIKE, ENROL, QUOTE, CLOSE = 1, 2, 3, 4, 5, 6, 7
+STATEMENT = 8
+INTENSITY = 9
+DIVIDE = 10
+APPEND_WEIGHT = 11
+POKE = 12
+LEND = 13
+DUMP = 14
+LOAD = 15
+
+# The operations that are calls of a book.
+CALLS = {
+    FRESH: "fresh",
+    OPEN: "open",
+    POST: "post",
+    STRIKE: "strike",
+    ENROL: "enrol",
+    QUOTE: "quote",
+    CLOSE: "close",
+    STATEMENT: "statement",
+    INTENSITY: "intensity",
+}
+
+OPERATIONS = {
+    **{operation: call_of_book(name) for operation, name in CALLS.items()},
+    DIVIDE: divide,
+    APPEND_WEIGHT: append_weight,
+    POKE: poke,
+    LEND: lend,
+    DUMP: dump,
+    LOAD: load,
+}
+
+
+def play_record(state, record):
+    """The numbers that one record prints, or None."""
+    if len(record) != RECORD.size:
+        raise BadRecord
+    if state.file is not None:
+        return take_bytes(state, record)
+    words = RECORD.unpack(record)
+    if words[0] not in OPERATIONS:
+        raise BadRecord
+    return OPERATIONS[words[0]](state, words[1:])
+
+
+class Player:
+    """Plays records one after another, up to a bad one."""
+
+    def __init__(self):
+        self.state = State()
+        self.lines = []
+        self.played = 0
+        self.ended = False
+
+    def play(self, record):
+        """Plays one record: the numbers that it prints, or None."""
+        if self.ended:
+            return None
+        self.played += 1
+        try:
+            numbers = play_record(self.state, record)
+        except BadRecord:
+            self.end_badly(self.played)
+            return None
+        if numbers is not None:
+            self.lines.append(" ".join(map(str, numbers)) + "\n")
+        return numbers
+
+    def end_badly(self, number):
+        self.ended = True
+        self.lines.append("bad record %d\n" % number)
+
+    def end(self):
+        """The input ends here. Where bytes of a file have not come, the
+        record that did not come is a bad one."""
+        if not self.ended and self.state.file is not None:
+            self.end_badly(self.played + 1)
+
+    def output(self):
+        return "".join(self.lines).encode("ascii")
+
+
+def play(data):
+    """The output bytes for the input bytes."""
+    player = Player()
+    for start in range(0, len(data), RECORD.size):
+        player.play(data[start:start + RECORD.size])
+        if player.ended:
+            break
+    player.end()
+    return player.output()
+
+
+if __name__ == "__main__":
+    sys.stdout.buffer.write(play(sys.stdin.buffer.read()))

@@ -1,0 +1,1 @@
+"""What the stored cases of the program replay are made with."""

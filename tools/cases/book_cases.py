@@ -1,0 +1,107 @@
+"""The cases of the book and its calls; make_cases.py adds them to its own."""
+
+import random
+from itertools import combinations
+
+from calculation.second_way import in_checking_order
+from cases import (
+    call_cases, closing_cases, conservation_cases, file_cases, intensity_cases,
+    random_cases, soundness_cases, statement_cases)
+from cases.book_writer import SORTS, BookCases
+
+SEED = 2404
+
+# The refusal numbers that each call can give, 0 for accepted.
+ANSWERS = {
+    "fresh": (0, 1),
+    "open": (0, 1, 3, 8),
+    "post": (0, 1, 2, 3, 4, 6, 7, 8, 10),
+    "strike": (0, 1, 2, 4),
+    "enrol": (0, 1, 2, 3, 4, 6, 7, 8, 10),
+    "quote": (0, 1, 3, 7, 8, 10),
+    "close": (0, 1, 2, 4, 9),
+    "statement": (0, 1, 3),
+    "intensity": (0, 1, 2, 3, 5, 9, 10),
+}
+
+# Pairs of grounds that cannot hold at once, each in checking order: a
+# category that is not there is neither open nor closed nor of a kind and has
+# no sums, an entry that is not there is not struck, a group that is none of
+# its values is not 1 or 2, a code that is none of its values wants no F, S or
+# C, and an intensity without its F, S or C has no result.
+NEVER_BOTH = {
+    "post": ((2, 4), (2, 6), (3, 6)),
+    "strike": ((2, 4),),
+    "enrol": ((2, 4), (2, 6)),
+    "close": ((2, 4), (2, 9)),
+    "intensity": ((2, 5), (2, 9), (2, 10), (3, 9), (3, 10), (9, 10)),
+}
+
+
+def pairs_of_grounds():
+    """(call, ground, later ground) for all that can hold at once."""
+    return [(name, one, other)
+            for name, numbers in ANSWERS.items()
+            for one, other in combinations(in_checking_order(numbers[1:]), 2)
+            if (one, other) not in NEVER_BOTH.get(name, ())]
+
+
+def sorts_of_closings():
+    """Passengers alone have no groups."""
+    return [sort + more for sort in SORTS for more in ("", " with groups")
+            if sort + more != "passengers with groups"]
+
+
+def added(counts, before):
+    """What came to the counts since."""
+    return {key: number - before.get(key, 0)
+            for key, number in counts.items() if number > before.get(key, 0)}
+
+
+def add_random(cases, add_them):
+    """Adds random cases; every sort of closing must be among them."""
+    before = dict(cases.closings)
+    add_them()
+    closings = added(cases.closings, before)
+    for sort in sorts_of_closings():
+        if closings.get(sort, 0) < 5:
+            raise SystemExit("few random closings of sort: " + sort)
+
+
+def add_long_lists(cases, possible):
+    """The long lists; every answer but 1 must be among theirs."""
+    before = dict(cases.answers)
+    add_random(cases, lambda: conservation_cases.add(cases))
+    cases.in_lists = added(cases.answers, before)
+    missing = [key for key in possible
+               if key[1] != 1 and key not in cases.in_lists]
+    if missing:
+        raise SystemExit("no call of a long list that gives: %r" % missing)
+
+
+def add(plain_cases):
+    """Adds the cases of the book; what they tested, as counts."""
+    cases = BookCases(plain_cases)
+    rng = random.Random(SEED)
+    possible = [(name, number) for name, numbers in ANSWERS.items()
+                for number in numbers]
+    call_cases.add(cases)
+    closing_cases.add(cases)
+    intensity_cases.add(cases)
+    statement_cases.add(cases)
+    soundness_cases.add(cases, rng)
+    add_random(cases, lambda: random_cases.add(cases, rng))
+    add_long_lists(cases, possible)
+    file_cases.add(cases)
+    # The cases reckoned by hand have the same outcome after all the others.
+    call_cases.reckoned_by_hand(cases)
+
+    missing = [key for key in possible if key not in cases.answers]
+    missing += [key for key in pairs_of_grounds() if key not in cases.pairs]
+    if missing:
+        raise SystemExit("no call that gives: %r" % missing)
+    strange = [key for key in cases.answers if key not in possible]
+    strange += [key for key in cases.pairs if key not in pairs_of_grounds()]
+    if strange:
+        raise SystemExit("no call can give: %r" % strange)
+    return cases

@@ -1,0 +1,203 @@
+"""Random lists of calls; none says which refusal number it gives."""
+
+from calculation import book
+from calculation.book import CATEGORIES, ELEMENTS, ENTRIES
+from calculation.closing import INTENSITY_CODES
+from cases.book_writer import FARTHEST, LARGEST
+
+LARGE = 64  # the scale of measures that soon meet the limits of ground 10
+
+
+def by_bits(rng, most_bits):
+    """A number of 0 to most_bits bits, each length as likely."""
+    return rng.getrandbits(64) >> (64 - rng.randrange(most_bits + 1))
+
+
+def one_of(rng, choices):
+    return choices[rng.randrange(len(choices))]
+
+
+def random_measure(rng, numbers, scale):
+    """A measure of a range. `scale` is how many bits it has at most; in
+    LARGE every other one is a part of the largest."""
+    sort = rng.randrange(8)
+    if scale == LARGE and sort < 4:
+        number = numbers[-1] // (1 + rng.randrange(9))
+    elif sort == 6:
+        number = numbers[-1]
+    elif sort == 7:
+        number = numbers[0]
+    else:
+        number = numbers[0] + by_bits(rng, numbers[-1].bit_length())
+    return max(numbers[0], min(number, numbers[-1], 2 ** scale))
+
+
+def random_call(cases, rng, scale, scale_of_posts=None):
+    """A call with arguments in their ranges. Posts have the same scale when
+    none is given for them."""
+    def measure(numbers):
+        return random_measure(rng, numbers, scale)
+
+    def measure_of_post(numbers):
+        return random_measure(rng, numbers, scale_of_posts or scale)
+
+    words = cases.words
+    category = 1 + rng.randrange(max(1, words[1] % 17))
+    kind = words[book.place(CATEGORIES, category)]
+    chain = one_of(rng, (1, 2, 3, 10_000, 1 + rng.randrange(10_000)))
+    sort = rng.randrange(118)
+    if sort < 4:
+        return "open", (one_of(rng, (1, 2, 3, 3, 4)),)
+    if sort < 26:
+        group = 0 if kind == 2 else rng.randrange(3)
+        return "post", (category, group, measure_of_post(book.QUANTITIES),
+                        measure_of_post(book.FACTORS),
+                        measure_of_post(book.FACTORS))
+    if sort < 36:
+        return "strike", (1 + rng.randrange(max(1, words[2] % 65)),)
+    if sort < 80:
+        passengers = kind == 2 or kind == 3 and rng.randrange(2) == 0
+        code = 100 + rng.randrange(901) if passengers else rng.randrange(3)
+        return "enrol", (category, chain, code,
+                         measure(book.amounts_of(code)),
+                         0 if kind == 4 else measure(book.DISTANCES))
+    if sort < 100:
+        return "quote", (chain, rng.randrange(2), measure(book.MASSES),
+                         measure(book.DISTANCES), measure(book.INTENSITIES),
+                         measure(book.INTENSITIES))
+    if sort < 103:
+        return "close", (category,)
+    if sort < 110:
+        return "intensity", (category, one_of(rng, INTENSITY_CODES))
+    return "statement", (chain,)
+
+
+WILD = (0, 1, 2, 3, 4, 5, 15, 16, 17, 63, 64, 65, 99, 100, 101, 255, 256, 257,
+        499, 500, 999, 1000, 1001, 10_000, 10_001, 95_000, 10 ** 6,
+        10 ** 6 + 1, FARTHEST, FARTHEST + 1, 10 ** 9, 10 ** 9 + 1, 10 ** 10,
+        10 ** 10 + 1, 10 ** 12, 10 ** 12 + 1, 10 ** 17, 10 ** 18, 2 ** 31,
+        2 ** 32, 2 ** 32 + 1, 2 ** 63, LARGEST - 1, LARGEST)
+
+
+def wild_call(cases, rng, scales=(20, 30, LARGE)):
+    """A call with up to two arguments that are any numbers."""
+    name, arguments = random_call(cases, rng, one_of(rng, scales))
+    arguments = list(arguments)
+    for _ in range(rng.randrange(3)):
+        place = rng.randrange(len(arguments))
+        arguments[place] = (by_bits(rng, 64) if rng.randrange(4) == 0
+                            else one_of(rng, WILD))
+    return name, arguments
+
+
+def play_random(cases, rng, name, arguments):
+    """Makes the call; now and then shows the record that it made."""
+    numbers = cases.call(name, *arguments, gives=None)
+    if numbers[0] == 0 and len(numbers) == 2 and rng.randrange(8) == 0:
+        listing = {"open": CATEGORIES, "post": ENTRIES}.get(name, ELEMENTS)
+        cases.dump_record(listing, numbers[1])
+
+
+def close_all(cases):
+    """Closes what can be closed, and shows every intensity."""
+    for number in range(1, cases.words[CATEGORIES.count] + 1):
+        cases.close(number, gives=None)
+        cases.intensities(number)
+
+
+def play_list(cases, rng, count, next_call):
+    """Plays so many calls, closes what can be closed and dumps all."""
+    for _ in range(count):
+        play_random(cases, rng, *next_call())
+    close_all(cases)
+    cases.dump_all()
+
+
+def lists_in_range(cases, rng):
+    for scale in (4, 10, 20, 24, 28, 32, 40, LARGE, LARGE, LARGE):
+        cases.new_book(*[1 + rng.randrange(4)
+                         for _ in range(1 + rng.randrange(5))])
+        play_list(cases, rng, 200, lambda: random_call(cases, rng, scale))
+
+
+def wild_lists(cases, rng):
+    for _ in range(6):
+        cases.new_book(1, 2, 3, 4)
+        play_list(cases, rng, 240, lambda: wild_call(cases, rng))
+
+
+def lists_with_damage(cases, rng):
+    """Words that change between calls, by a bit or altogether."""
+    for _ in range(5):
+        cases.new_book(1, 2, 3, 4)
+        for number in range(30):
+            play_random(cases, rng, *random_call(cases, rng, 20))
+        for number in range(90):
+            if number % 30 == 0:
+                cases.close(1 + number // 30, gives=None)
+            if rng.randrange(2) == 0:
+                play_random(cases, rng, *random_call(cases, rng, 20))
+                continue
+            index = some_word(cases, rng)
+            old = cases.words[index]
+            new = (old ^ 1 << rng.randrange(64) if rng.randrange(2) == 0
+                   else one_of(rng, WILD))
+            cases.poke(index, new)
+            play_random(cases, rng, *random_call(cases, rng, 20))
+            if cases.words[index] == new:
+                cases.poke(index, old)
+            cases.strike(0, gives=None)
+        cases.dump_all()
+
+
+def lists_of_closings(cases, rng):
+    """Categories for freight and passengers whose groups have elements. In
+    every other book there are few measures, so that remainders are equal."""
+    for number in range(24):
+        scale = 2 if number % 2 == 0 else one_of(rng, (8, 16, 24, 30))
+        kinds = [one_of(rng, (1, 2, 3, 3, 4)) for _ in range(3)]
+        cases.new_book(3, *kinds)
+        for step in range(28):
+            category = 1 + rng.randrange(4)
+            kind = (3, *kinds)[category - 1]
+            random_member(cases, rng, category, kind, scale)
+            if step % 3 == 0:
+                group = 0 if kind == 2 else one_of(rng, (0, 0, 1, 2))
+                quantity = random_measure(rng, book.QUANTITIES, 20)
+                cases.post(category, group, quantity,
+                           random_measure(rng, book.FACTORS, 30),
+                           random_measure(rng, book.FACTORS, 30))
+            if step % 9 == 8:
+                cases.strike(1 + rng.randrange(cases.words[2]), gives=None)
+        for chain in (1, 2, 3, 4):
+            cases.statement(chain)
+        close_all(cases)
+        for chain in (1, 2, 3, 4):
+            cases.statement(chain)
+        cases.dump_book()
+
+
+def random_member(cases, rng, category, kind, scale):
+    """Enrols an element that suits the kind."""
+    passengers = kind == 2 or kind == 3 and rng.randrange(2) == 0
+    code = (one_of(rng, (100, 150, 400, 1000)) if passengers
+            else rng.randrange(3))
+    cases.enrol(category, 1 + rng.randrange(4), code,
+                random_measure(rng, book.amounts_of(code), scale),
+                0 if kind == 4 else random_measure(rng, book.DISTANCES, scale))
+
+
+def some_word(cases, rng):
+    """A word of the header, of a counted record or of the next one."""
+    if rng.randrange(8) == 0:
+        return rng.randrange(4)
+    listing = one_of(rng, book.LISTINGS)
+    count = min(cases.words[listing.count] + 1, listing.most)
+    return listing.start + rng.randrange(count * book.size(listing))
+
+
+def add(cases, rng):
+    lists_in_range(cases, rng)
+    wild_lists(cases, rng)
+    lists_with_damage(cases, rng)
+    lists_of_closings(cases, rng)

@@ -1,0 +1,1 @@
+"""Tests of the separate calculation and the packing; checks of programs."""

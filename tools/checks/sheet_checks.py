@@ -1,0 +1,98 @@
+"""Checks of the sheet; test_calculation.py makes them."""
+
+import random
+
+from calculation.second_loading import second_load
+from calculation.sheet import sheet
+from cases import file_parts
+from cases.file_writer import EXAMPLE, cut_to, file_of, with_header
+from cases.random_files import changed_byte, changed_header, random_file
+
+SEED = 19
+HEADING = b"chain elements waiting operation provision total\n"
+
+# Document 01's own.
+SHEET_OF_EXAMPLE = b"""\
+chain elements waiting operation provision total
+4 1 0 28980000000000 5040000000000 34020000000000
+7 2 0 9691000000000 1685000000000 11376000000000
+"""
+
+LONGEST = cut_to(EXAMPLE, 16_384)
+
+WRITTEN_OUT = (
+    (EXAMPLE, SHEET_OF_EXAMPLE),
+    (file_of(), HEADING),
+    (file_of([(1, 0)], [(1, 0, 5, 6, 7)]), HEADING),
+    (LONGEST, SHEET_OF_EXAMPLE),
+    # Too long, also where the header says so, and too short.
+    (LONGEST + b"\0", b"refused 11 0 0\n"),
+    (cut_to(EXAMPLE, 16_385), b"refused 11 0 0\n"),
+    (bytes(100_000), b"refused 11 0 0\n"),
+    (EXAMPLE[:31], b"refused 11 0 0\n"),
+    (b"", b"refused 11 0 0\n"),
+    # A section within the header, and a stop in each table.
+    (with_header(EXAMPLE, categories_offset=31), b"refused 12 0 0\n"),
+    (file_of([(1, 0), (1, 2)]), b"refused 13 1 2\n"),
+    (file_of([(1, 0)], [(2, 0, 1, 1, 1)]), b"refused 2 2 1\n"),
+    (file_of((), (), [(0, 10_001, 0, 0, 1, 1, 0, 0)]), b"refused 3 3 1\n"),
+    (file_of([(1, 0), (1, 0), (1, 1)]), b"refused 9 4 3\n"),
+    # "Kind 3, A 9, freight activity 100, one head each of codes 100 and 400
+    # over 1 m: 3, 1, 5." Each is on its own chain, the first the last.
+    (file_of([(3, 1)], [(1, 0, 1, 9, 0)],
+             [(1, 10_000, 0, 0, 100, 1, 0, 0), (1, 9, 100, 0, 1, 1, 0, 0),
+              (1, 1, 400, 0, 1, 1, 0, 0)]),
+     HEADING + b"1 1 0 5 0 5\n9 1 0 1 0 1\n10000 1 0 3 0 3\n"),
+    # "A 8, B1 5, ambient 100, chilled 300: 2 and 11", in provision; and the
+    # same in a category that stays open, on the same chain.
+    (file_of([(1, 1), (1, 0)],
+             [(1, 0, 1, 0, 8), (1, 1, 1, 0, 5), (2, 0, 1, 0, 8)],
+             [(1, 2, 0, 0, 100, 1, 0, 0), (2, 2, 0, 0, 100, 1, 0, 0),
+              (1, 3, 1, 0, 300, 1, 0, 0), (2, 4, 1, 0, 300, 1, 0, 0)]),
+     HEADING + b"2 2 1 0 2 2\n3 1 0 0 11 11\n4 1 1 0 0 0\n"),
+    # "Quote 1, 500 kg, 1 m: 1", twice; a quote never waits.
+    (file_of((), (), [(0, 5, 0, 0, 500, 1, 1, 0),
+                      (0, 5, 0, 0, 500, 1, 1, 1)]),
+     HEADING + b"5 2 0 2 1 3\n"),
+)
+
+
+def written_out(check):
+    for data, printed in WRITTEN_OUT:
+        check(sheet(data) == printed, "sheet", printed, sheet(data))
+
+
+def second_sheet(data):
+    """The sheet once more: element after element is added to the line of its
+    chain."""
+    words = [0] * 2404
+    numbers = second_load(words, data)
+    if numbers != [0, 0, 0]:
+        return b"refused %d %d %d\n" % tuple(numbers)
+    lines = {}
+    for place in range(356, 356 + 8 * words[3], 8):
+        category, chain, *_, operation, provision = words[place:place + 8]
+        waits = category > 0 and words[3 + 2 * category] == 0
+        added = (1, waits, operation, provision, operation + provision)
+        lines[chain] = [old + new for old, new
+                        in zip(lines.get(chain, [0] * 5), added)]
+    return HEADING + b"".join(b"%d %d %d %d %d %d\n" % (chain, *lines[chain])
+                              for chain in sorted(lines))
+
+
+def by_both_ways(check):
+    rng = random.Random(SEED)
+    files = [file_of(*file_parts.full_parts()), file_parts.WHOLE]
+    for most in ((2, 3, 5), (4, 8, 12), (9, 20, 40)) * 20:
+        data = random_file(rng, most)
+        files += [data, changed_byte(data, rng), changed_header(data, rng)]
+    printed = [sheet(data) for data in files]
+    for data, own in zip(files, printed):
+        check(own == second_sheet(data), "sheet", own, data.hex())
+    refused = sum(own.startswith(b"refused") for own in printed)
+    check(20 < refused < len(files) - 60, "sheets", refused)
+
+
+def run(check):
+    written_out(check)
+    by_both_ways(check)
