@@ -4,6 +4,8 @@
     python3 tools/pack.py < book.txt > book.file
     python3 tools/pack.py book.txt | target/bin/quaymeter
 
+`tools/quay sheet book.txt` does both, and tells a refusal at its line.
+
 A line is a record: its word, then each field as its word and a number, in
 any order.
 
@@ -18,175 +20,133 @@ intensities of a quote. Categories, entries and elements, quotes among them,
 are numbered from 1 in the order of their lines; the three may be mixed. `#`
 begins a comment. A long number may have `_` or `,` between groups of three
 digits. `close` and `adjust` stand for `close 1` and `adjust 1`; left out they
-are 0. An element may have `adjust`, `operation` and `provision` as well.
+are 0. An element may have `adjust`, `operation` and `provision` as well, and
+is then refused by the ledger where they are not 0.
+Instead of a number `kind` may have the word freight, passengers, both or hub,
+`group` all, chilled or frozen, `code` ambient, chilled, frozen or lowest,
+which is 100.
 
-Only the form is judged here. A record that the ledger refuses (kind 9, chain
-0, an element with an intensity) is packed as it is: the refusal is printed by
-quaymeter. A text with a bad line gives no file: what is wrong goes to
-standard error, and the exit status is 1.
+    name      a chain's number and its name, which `quay` shows
+
+is not packed. Only the form is judged here. A record that the ledger refuses
+(kind 9, chain 0, an element with an intensity) is packed as it is: the
+refusal is printed by quaymeter. A text with a bad line gives no file: what is
+wrong goes to standard error, and the exit status is 1.
 """
 
-import difflib
-import re
 import sys
 from collections import namedtuple
 
+from calculation.book import CHAINS
 from cases.file_writer import (
     HEADER_BYTES, MOST_BYTES, SIZES, SMALL_FIELDS, file_of)
+from command.amounts import counted
+from command.fields import (
+    ALWAYS_0, CATEGORY, CHAIN, DISTANCE, NUMBER, ONE_COMMA, Wrong,
+    expected_fields, flag, given_numbers, is_like_number, meant, must_be_0,
+    needed, number_of, record_numbers, shown)
+from command.texts import (
+    Unreadable, carriage_returns, lines_of, read, without_comment,
+    without_remark)
 
-MOST_SHOWN = 10   # bad lines that are told of
-MOST_SIGNS = 120  # of a line or a word that are shown
-
-# A field: its word, None where no word sets it; what it is when it is left
-# out, None where it must be there; and what its word stands for without a
-# number, None where one must follow.
-Field = namedtuple("Field", "word left_out alone")
-
-
-def needed(*words):
-    return [Field(word, None, None) for word in words]
-
-
-def optional(*words):
-    return [Field(word, 0, None) for word in words]
-
-
-def flag(word):
-    return [Field(word, 0, 1)]
-
-
-ALWAYS_0 = [Field(None, 0, None)]
+MOST_SHOWN = 10  # bad lines that are told of
+NO_TEXT = "%s is no text; save it as plain text, in UTF-8"
 
 # A record: its table, and its fields in document 01's order.
 Record = namedtuple("Record", "table fields")
 
+QUANTITY = needed("quantity",
+                  "in thousandths of a unit, of a kg for example")
+FACTOR = "in mg CO2e per unit"
+INTENSITY = "in mg CO2e per tonne-km"
+
 RECORDS = {
-    "category": Record(1, needed("kind") + flag("close")),
-    "entry": Record(2, needed("category", "group", "quantity", "operation",
-                              "provision")),
-    "element": Record(3, needed("category", "chain", "code") + flag("adjust")
-                      + needed("amount", "distance")
-                      + optional("operation", "provision")),
+    "category": Record(1, (needed("kind"), flag("close"))),
+    "entry": Record(2, (
+        CATEGORY, needed("group"), QUANTITY,
+        needed("operation", FACTOR), needed("provision", FACTOR))),
+    "element": Record(3, (
+        CATEGORY, CHAIN, needed("code"),
+        flag("adjust", offered=False),
+        needed("amount", "in kg, or heads for passengers"), DISTANCE,
+        must_be_0("operation"), must_be_0("provision"))),
     # Its category and its code are 0.
-    "quote": Record(3, ALWAYS_0 + needed("chain") + ALWAYS_0 + flag("adjust")
-                    + needed("mass", "distance", "operation", "provision")),
+    "quote": Record(3, (
+        ALWAYS_0, CHAIN, ALWAYS_0, flag("adjust"),
+        needed("mass", "in kg"), needed("distance", "in m"),
+        needed("operation", INTENSITY),
+        needed("provision", INTENSITY))),
 }
+# Words of records that are no words of fields.
+BEGINNINGS = ("entry", "element", "quote")
 
+NAME = "name"
+EXPECTED_NAME = ("expected name, the number of a chain, 1 to 10,000, and its "
+                 "name, as in `name 7 Harbour Mills`")
+EXPECTED_RECORD = ("expected a line that begins with category, entry, "
+                   "element, quote or name")
 
-class Wrong(Exception):
-    """What is wrong with a line, and what was expected."""
-
-
-# Numbers.
-
-NUMBER = re.compile("[0-9]{1,3}(,[0-9]{3})+|[0-9]{1,3}(_[0-9]{3})+|[0-9]+")
-EXPECTED_NUMBER = ("expected a whole number such as 12000000, 12_000_000 or "
-                   "12,000,000")
-
-
-def is_like_number(text):
-    """Whether it was meant to be a number."""
-    return text.lstrip("+-.")[:1].isdecimal()
-
-
-def number_of(text, word, bits):
-    """The number that is written after a word."""
-    if not NUMBER.fullmatch(text):
-        raise Wrong("`%s` after `%s` is not a whole number"
-                    % (shown(text), word),
-                    EXPECTED_NUMBER)
-    digits = text.replace(",", "").replace("_", "").lstrip("0") or "0"
-    most = 2 ** bits - 1
-    if len(digits) > len(str(most)) or int(digits) > most:
-        raise Wrong("the number after `%s` does not fit %d bits"
-                    % (word, bits), "expected at most {:,}".format(most))
-    return int(digits)
-
-
-# Words.
-
-def shown(text):
-    """A text of the reader in a message: one line, and not too long."""
-    text = "".join(sign if sign.isprintable() else "?"
-                   for sign in " ".join(text.split()))
-    return text if len(text) <= MOST_SIGNS else text[:MOST_SIGNS] + " ..."
-
-
-def listed(words):
-    """The words as "a, b and c"."""
-    *others, last = words
-    return ", ".join(others) + " and " + last if others else last
-
-
-def meant(word, known):
-    """A question where the word is like a known one."""
-    like = difflib.get_close_matches(word, known, 1)
-    return "; did you mean `%s`?" % like[0] if like else ""
-
-
-def expected_fields(name):
-    fields = [field for field in RECORDS[name].fields
-              if field.word is not None]
-    expected = "expected %s with %s" % (name, listed(
-        [field.word for field in fields if field.left_out is None]))
-    more = [field.word for field in fields if field.left_out is not None]
-    return expected + ("; it may have %s" % listed(more) if more else "")
-
-
-def no_such_field(word, known):
-    if is_like_number(word):
-        return "`%s` has no word before it that says what it is" % shown(word)
-    return ("`%s` is no word of this record" % shown(word)
-            + meant(word, known))
+# Calls, which begin no line of a book's text: the record that is written for
+# one, and what else is said of them.
+RECORD_OF_CALL = {"open": "category", "post": "entry", "enrol": "element"}
+CLOSING = ("write `close` at the end of the category's line, as in `category "
+           "kind freight close`")
+PLAYED = ("strike", "statement", "intensity", "fresh", "load", "show")
 
 
 # Lines.
 
-def record_of(line):
-    """The table of a line's record and its numbers, None for a line without
-    a record."""
-    words = line.split("#", 1)[0].split()
-    if not words:
-        return None
-    name = words[0]
+def record_of(name, words):
+    """The table of a record and its numbers."""
     if name not in RECORDS:
         raise Wrong("no record is called `%s`" % shown(name)
-                    + meant(name, RECORDS),
-                    "expected a line that begins with category, entry, "
-                    "element or quote")
+                    + meant(name, (*RECORDS, NAME)), instead_of(name))
     table, fields = RECORDS[name]
-    given = given_numbers(name, words[1:])
-    missing = [field.word for field in fields
-               if field.left_out is None and field.word not in given]
-    if missing:
-        raise Wrong("missing: %s" % listed(missing), expected_fields(name))
-    return table, tuple(given.get(field.word, field.left_out)
-                        for field in fields)
+    other = next((word for word in words if word.lower() in BEGINNINGS), None)
+    if other is not None:
+        raise Wrong("`%s` begins a record, behind another one" % other,
+                    "expected a line for each record")
+    if words and is_like_number(words[0]):
+        raise Wrong("`%s` has no word before it that says what it is; records "
+                    "are numbered by their order, and their lines have no "
+                    "number" % shown(words[0]), expected_fields(name, fields))
+    given = given_numbers(
+        name, fields, words,
+        bits_of=lambda field: 32 if fields.index(field)
+        < SMALL_FIELDS[table - 1] else 64)
+    return table, record_numbers(name, fields, given)
 
 
-def given_numbers(name, words):
-    """The numbers of a record's line by the words before them."""
-    table, fields = RECORDS[name]
-    places = {field.word: place for place, field in enumerate(fields)
-              if field.word is not None}
-    given = {}
-    while words:
-        word, *words = words
-        if word not in places:
-            raise Wrong(no_such_field(word, places), expected_fields(name))
-        if word in given:
-            raise Wrong("`%s` stands twice" % word, expected_fields(name))
-        place = places[word]
-        alone = fields[place].alone
-        if alone is not None and not (words and is_like_number(words[0])):
-            given[word] = alone
-        elif not words or words[0] in places:
-            raise Wrong("no number after `%s`" % word, EXPECTED_NUMBER)
-        else:
-            bits = 32 if place < SMALL_FIELDS[table - 1] else 64
-            text, *words = words
-            given[word] = number_of(text, word, bits)
-    return given
+def instead_of(name):
+    """What to write instead of a word that begins no record."""
+    if name in RECORD_OF_CALL:
+        return "a book's text has `%s` for it" % RECORD_OF_CALL[name]
+    if name == "close":
+        return CLOSING
+    if name in PLAYED:
+        return "that is a call, for `tools/quay play`"
+    return EXPECTED_RECORD
+
+
+def is_name(line):
+    return line.split()[:1] != [] and line.split()[0].lower() == NAME
+
+
+def name_of(line):
+    """The chain that a line names, and its name."""
+    words = without_remark(line).split()[1:]
+    if words[:1] == ["chain"]:
+        words = words[1:]
+    if len(words) < 2:
+        raise Wrong("a chain's number or its name is missing", EXPECTED_NAME)
+    chain, *name = words
+    if not NUMBER.fullmatch(chain):
+        raise Wrong("`%s` is not the number of a chain" % shown(chain),
+                    EXPECTED_NAME)
+    number = number_of(chain, CHAIN)
+    if number not in CHAINS:
+        raise Wrong("there is no chain %d to name" % number, EXPECTED_NAME)
+    return number, shown(" ".join(name))
 
 
 # The text.
@@ -195,52 +155,122 @@ def given_numbers(name, words):
 Problem = namedtuple("Problem", "number line what expected")
 
 
-def add_line(tables, line):
-    """Adds the record of a line to its table."""
-    record = record_of(line)
-    if record is None:
-        return
-    table, numbers = record
-    length = HEADER_BYTES + sum(size * len(records)
-                                for size, records in zip(SIZES, tables))
-    if length + SIZES[table - 1] > MOST_BYTES:
-        raise Wrong("with this record the file would pass {:,} bytes".format(
-            MOST_BYTES), "expected no more than 16 categories, 64 entries and "
-                         "256 elements and quotes; with these there is room")
-    tables[table - 1].append(numbers)
+class Text:
+    """A book's text: its lines, the records of the three tables with the
+    numbers of their lines, the chains' names, the problems of its lines and
+    what else is to be told."""
+
+    def __init__(self, text):
+        self.lines = lines_of(text)
+        self.tables = ([], [], [])
+        self.numbers = ([], [], [])
+        self.names = {}
+        self.problems = []
+        self.bytes = HEADER_BYTES
+        self.too_many = None  # the number of the first line without room
+        for number, line in enumerate(self.lines, 1):
+            try:
+                if is_name(line):
+                    self.add_name(*name_of(line))
+                else:
+                    self.add_record(number, without_comment(line).split())
+            except Wrong as wrong:
+                self.problems.append(Problem(number, line, *wrong.args))
+        if self.too_many is not None:
+            self.problems.append(self.no_room())
+            self.problems.sort()
+        self.notes = list(self.all_notes())
+
+    def add_name(self, chain, name):
+        if chain in self.names:
+            raise Wrong("chain %d has a name already" % chain,
+                        "expected one name for a chain")
+        self.names[chain] = name
+
+    def add_record(self, number, words):
+        if not words:
+            return
+        name, *words = words
+        table, numbers = record_of(name.lower(), words)
+        self.bytes += SIZES[table - 1]
+        if self.bytes > MOST_BYTES and self.too_many is None:
+            self.too_many = number
+        self.tables[table - 1].append(numbers)
+        self.numbers[table - 1].append(number)
+
+    def no_room(self):
+        return Problem(
+            self.too_many, self.lines[self.too_many - 1],
+            "from this record on there is no room: the file would pass {:,} "
+            "bytes".format(MOST_BYTES),
+            "expected no more than 16 categories, 64 entries and 256 elements "
+            "and quotes; here are %d, %d and %d"
+            % tuple(map(len, self.tables)))
+
+    def all_notes(self):
+        if self.is_empty() and not self.problems:
+            yield "there is no record in this text"
+        yield from carriage_returns(self.lines)
+        for record, (category, *_) in enumerate(self.tables[2], 1):
+            line = self.lines[self.line_of(3, record) - 1]
+            if category == 0 and line.split()[0].lower() == "element":
+                yield ("line %d: an element of category 0 is a quote, in no "
+                       "category" % self.line_of(3, record))
+        yield from self.commas()
+
+    def commas(self):
+        """A note where a comma between thousands may be meant as one before
+        decimals."""
+        found = [(number, word) for number, line in enumerate(self.lines, 1)
+                 if not is_name(line)
+                 for word in without_comment(line).split()
+                 if ONE_COMMA.fullmatch(word)]
+        if found:
+            number, word = found[0]
+            more = len(found) - 1
+            yield ("line %d: `%s` is read as %d, since a comma stands between "
+                   "thousands here and never before decimals%s" % (
+                       number, word, int(word.replace(",", "")),
+                       more and "; %s alike" % counted(
+                           more, "more number is", "more numbers are") or ""))
+
+    def is_empty(self):
+        return not any(self.tables)
+
+    def is_text(self):
+        """Whether it is not the bytes of a program or a picture."""
+        return not self.problems or not any("\0" in line
+                                            for line in self.lines)
+
+    def line_of(self, table, record):
+        """The number of the line of a record."""
+        return self.numbers[table - 1][record - 1]
+
+    def called(self, word, record):
+        """A category, entry or element with its line."""
+        return "%s %d (line %d)" % (
+            word, record, self.line_of(RECORDS[word].table, record))
+
+    def data(self):
+        """The bytes of the file."""
+        return file_of(*self.tables)
 
 
 def packed(text):
     """The bytes of the file, and the problems of its lines."""
-    tables = ([], [], [])
-    problems = []
-    for number, line in enumerate(text.split("\n"), 1):
-        try:
-            add_line(tables, line)
-        except Wrong as wrong:
-            problems.append(Problem(number, line, *wrong.args))
-    return file_of(*tables), problems
+    book = Text(text)
+    return (b"" if book.problems else book.data()), book.problems
 
 
-def report(problems, source):
+def report(problems, source, end="no file is written"):
     """The lines of a message."""
     for number, line, what, expected in problems[:MOST_SHOWN]:
         yield "%sline %d: %s" % (source, number, what)
         yield "    %s" % shown(line)
         yield "    %s" % expected
     if len(problems) > MOST_SHOWN:
-        yield "and %d more bad lines" % (len(problems) - MOST_SHOWN)
-    yield "no file is written"
-
-
-def read(path):
-    """The text at a path, None for standard input."""
-    if path is None:
-        data = sys.stdin.buffer.read()
-    else:
-        with open(path, "rb") as file:
-            data = file.read()
-    return data.decode("utf-8-sig", "replace")
+        yield "and %s" % counted(len(problems) - MOST_SHOWN, "more bad line")
+    yield end
 
 
 def main(arguments):
@@ -248,16 +278,22 @@ def main(arguments):
         print("usage: pack.py [TEXT]", file=sys.stderr)
         return 2
     path = arguments[0] if arguments else None
+    source = path + ", " if path else ""
     try:
-        data, problems = packed(read(path))
-    except OSError as error:
-        print("the text cannot be read: %s" % error, file=sys.stderr)
+        text = Text(read(path))
+    except Unreadable as error:
+        print(error, file=sys.stderr)
         return 1
-    if problems:
-        for line in report(problems, path + ", " if path else ""):
+    if not text.is_text():
+        print(NO_TEXT % shown(path or "standard input"), file=sys.stderr)
+        return 1
+    for note in text.notes:
+        print("note: %s%s" % (source, note), file=sys.stderr)
+    if text.problems:
+        for line in report(text.problems, source):
             print(line, file=sys.stderr)
         return 1
-    sys.stdout.buffer.write(data)
+    sys.stdout.buffer.write(text.data())
     return 0
 
 

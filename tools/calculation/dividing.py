@@ -3,6 +3,8 @@
 Written from document 01 alone. Sentences in quotation marks are its own.
 """
 
+from collections import namedtuple
+
 # Refusal numbers.
 ACCEPTED = 0
 BAD_SLICE = 1
@@ -13,30 +15,42 @@ MOST_WEIGHTS = 256
 LIMIT = 10 ** 18
 
 
-def shares_of(pool, weights):
-    """The shares of the dividing rule, without its refusals.
+# What a weight gets: the floor, the remainder behind it, and 1 where a unit
+# left over goes to it, else 0.
+Portion = namedtuple("Portion", "floor remainder unit")
+
+
+def portions_of(pool, weights):
+    """What the dividing rule gives each weight, without its refusals.
 
     "A pool G goes to weights w of sum T > 0." A pool above 0 needs T > 0.
     """
     # "A pool of 0 gives 0 to each, also where there are no weights or T
     # is 0."
     if pool == 0:
-        return [0] * len(weights)
+        return [Portion(0, 0, 0)] * len(weights)
     total = sum(weights)
 
     # "Each gets floor(G×w/T)."
-    shares = [pool * weight // total for weight in weights]
+    floors = [pool * weight // total for weight in weights]
     remainders = [pool * weight % total for weight in weights]
-    left_over = pool - sum(shares)
+    left_over = pool - sum(floors)
 
     # "The units left over go one each to the largest remainders of G×w by
     # T, equal remainders to the earlier place."
     order = sorted(
         range(len(weights)), key=lambda place: (-remainders[place], place)
     )
+    units = [0] * len(weights)
     for place in order[:left_over]:
-        shares[place] += 1
-    return shares
+        units[place] = 1
+    return list(map(Portion, floors, remainders, units))
+
+
+def shares_of(pool, weights):
+    """The shares of the dividing rule, without its refusals."""
+    return [portion.floor + portion.unit
+            for portion in portions_of(pool, weights)]
 
 
 def divide(pool, weights, share_count):

@@ -17,6 +17,7 @@ from calculation.sheet import sheet
 from cases.file_writer import EXAMPLE, file_of, table_records
 from checks import sheet_checks
 from checks.checking import Checks
+from command import texts
 
 TOOLS = os.path.dirname(os.path.dirname(os.path.abspath(__file__)))
 EXAMPLES = os.path.join(os.path.dirname(TOOLS), "examples")
@@ -55,9 +56,116 @@ def good_lines():
                     "category kind 2 close", ENTRY.replace("5", "6"))),
          [(4, 0), (2, 1)], [(1, 2, 3, 4, 5), (1, 2, 3, 4, 6)],
          [(0, 1, 0, 0, 2, 3, 4, 5), (1, 2, 3, 0, 4, 5, 0, 0)])
-    # Comments, spaces, the ends of lines, a mark at the start of a text.
+    # Comments, spaces, the ends of lines.
     good("\tcategory   kind\t1 close# to be closed\r\ncategory kind 2 #close",
          [(1, 1), (2, 0)])
+    good("CATEGORY Kind 1 Close", [(1, 1)])
+
+
+def value_words():
+    """Words for a kind, a group and a code."""
+    for place, word in enumerate(("freight", "passengers", "both", "hub"), 1):
+        good("category kind %s close" % word, [(place, 1)])
+    for place, word in enumerate(("all", "chilled", "frozen")):
+        good(ENTRY.replace("group 2", "group " + word), (),
+             [(1, place, 3, 4, 5)])
+    for number, word in ((0, "ambient"), (1, "chilled"), (2, "Frozen"),
+                         (100, "lowest")):
+        good(ELEMENT.replace("code 3", "code " + word), (), (),
+             [(1, 2, number, 0, 4, 5, 0, 0)])
+    bad("category kind fright", "did you mean `freight`?",
+        "expected freight (1), passengers (2), both (3) or hub (4)")
+    bad("category kind terminal", "did you mean `hub`?")
+    bad(ELEMENT.replace("code 3", "code reefer"), "did you mean `chilled`?")
+    bad("category kind ambient", "`ambient` after `kind` is not a whole "
+        "number, nor one of its words")
+    bad(ENTRY.replace("group 2", "group ambient"), "`ambient` after `group`",
+        "all (0), chilled (1) or frozen (2)")
+    bad(ELEMENT.replace("code 3", "code first"), "`first` after `code`",
+        "lowest (100), or up to 1000, a passenger class")
+    bad("category freight", "did you mean `kind freight`?")
+    bad(ENTRY.replace("quantity 3", "quantity all"), "`all` after `quantity`")
+
+
+LINES = ("category kind 1 close", QUOTE, "# the end")
+PACKED_LINES = [(1, 1)], (), [(0, 1, 0, 0, 2, 3, 4, 5)]
+
+
+def forms():
+    """The same text in other encodings and with other line ends."""
+    for end in ("\n", "\r\n", "\r", "\n\n", "\r\r\n"):
+        for encoding in ("utf-8", "utf-8-sig", "utf-16", "utf-16-le",
+                         "utf-16-be", "cp1252"):
+            for last in ("", end):
+                data = (end.join(LINES) + last).encode(encoding)
+                good(texts.decoded(data), *PACKED_LINES)
+    # Both marks of UTF-16, a mark inside the text, and letters of Windows.
+    for mark, encoding in ((b"\xff\xfe", "utf-16-le"),
+                           (b"\xfe\xff", "utf-16-be")):
+        good(texts.decoded(mark + "\n".join(LINES).encode(encoding)),
+             *PACKED_LINES)
+    good("\n\ufeff".join(LINES), *PACKED_LINES)
+    # Zeros in a comment make no UTF-16.
+    for comment in (b"#\0\n", b"#\0a\0\n", b"#" + b"\0" * 200 + b"\n"):
+        good(texts.decoded(comment + "\n".join(LINES).encode()),
+             *PACKED_LINES)
+    data = b"# M\xfcller\ncategory\xa0kind 1\nname 7 M\xfcller & S\xf8n"
+    book = pack.Text(texts.decoded(data))
+    check(not book.problems and book.names == {7: "M\u00fcller & S\u00f8n"},
+          "letters of Windows", book.names)
+    # Lines are counted by their own ends.
+    for end in ("\n", "\r\n", "\r"):
+        problems = pack.packed(end.join((QUOTE, "", "\tzzz", QUOTE)))[1]
+        check([problem.number for problem in problems] == [3], "line 3",
+              problems)
+
+
+def notes():
+    """What is told of a text that is packed."""
+    for text in ("", "\n\n", "# nothing", "name 7 Harbour Mills"):
+        check(pack.Text(text).notes == ["there is no record in this text"],
+              "no record", text)
+    check(pack.Text(QUOTE).notes == [], "a record", pack.Text(QUOTE).notes)
+    check(pack.Text("what?").notes == [], "a bad line")
+    text = pack.Text("# heading\r%s\n%s\r\n" % (QUOTE, QUOTE))
+    check(text.notes == ["line 1 has a carriage return inside, which is no "
+                         "line end in this text"] and not text.problems
+          and len(text.tables[2]) == 1, "mixed line ends", text.notes)
+    text = pack.Text(QUOTE + "\n" + ELEMENT.replace("category 1",
+                                                    "category 0"))
+    check(text.notes == ["line 2: an element of category 0 is a quote, in no "
+                         "category"], "category 0", text.notes)
+    lines = [QUOTE.replace("distance 3", "distance " + number)
+             for number in ("300", "3,206", "12,000,000", "0,620", "1_000")]
+    for count, more in ((2, ""), (3, ""), (5, "; 1 more number is alike")):
+        text = pack.Text("\n".join(["# 1,000", "name 1 1,000"]
+                                   + lines[:count]))
+        check(text.notes == ["line 4: `3,206` is read as 3206, since a comma "
+                             "stands between thousands here and never before "
+                             "decimals" + more], "a comma", text.notes)
+
+
+def names():
+    text = pack.Text("name 7 Harbour  Mills # of the harbour\n%s\n"
+                     "Name chain 4 7 Up\nname 10,000 x" % QUOTE)
+    check(not text.problems and text.names == {
+        7: "Harbour Mills", 4: "7 Up", 10_000: "x"}, "names", text.names)
+    check(text.data() == file_of((), (), [(0, 1, 0, 0, 2, 3, 4, 5)]),
+          "a name is not packed")
+    for line in ("name", "name 7", "name chain 7", "name 7 # Mills"):
+        bad(line, "a chain's number or its name is missing",
+            "the number of a chain, 1 to 10,000", "`name 7 Harbour Mills`")
+    for line in ("name Mills 7", "name 7: Mills", "name 7.5 Mills"):
+        bad(line, "`%s` is not the number of a chain" % line.split()[1],
+            "`name 7 Harbour Mills`")
+    bad("name 0 x", "there is no chain 0 to name", "1 to 10,000")
+    bad("name 10001 x", "there is no chain 10001 to name")
+    text = pack.Text("name 3 Pier #3 Fruit # in the harbour\nname 4 \x1b[1mA#")
+    check(text.names == {3: "Pier #3 Fruit", 4: "?[1mA"}, "signs of a name",
+          text.names)
+    text = pack.Text("name 7 a\nname 7 b")
+    check([(problem.number, problem.what) for problem in text.problems]
+          == [(2, "chain 7 has a name already")], "two names")
 
 
 def refused_by_the_ledger():
@@ -81,11 +189,39 @@ def numbers():
         ("18446744073709551615", LARGEST),
         ("18,446,744,073,709,551,615", LARGEST), ("0" * 5000 + "1", 1),
     ):
-        check(pack.number_of(text, "quantity", 64) == number, "number", text)
+        check(pack.number_of(text, pack.needed("quantity")) == number,
+              "number", text)
     for text in ("1,00", "1,0000", ",100", "100,", "1,,000", "1,000_000",
                  "1_000,000", "1__000", "_1", "1_", "1.5", "1.000", "-1", "+1",
                  "1e6", "0x10", "1kg", "kg", "\u0663", "\u00b2"):
-        bad("category kind %s" % text, "not a whole number", "12,000,000")
+        bad(QUOTE.replace("mass 2", "mass " + text), "not a whole number",
+            "12,000,000")
+        bad("category kind %s" % text, "not a whole number", "hub (4)")
+    for text in ("20,50", "20,5", "1,0000", "20,5000"):
+        bad(QUOTE.replace("distance 3", "distance " + text), "ambiguous",
+            "`distance` is in m")
+    for text in ("1.5", "12.000.000", "1,000.5", ".5"):
+        bad(QUOTE.replace("mass 2", "mass " + text), "there are no decimals",
+            "`mass` is in kg")
+    for text in ("300km", "1_000kg", "5m", "5KM"):
+        bad(QUOTE.replace("distance 3", "distance " + text),
+            "a number stands without its unit", "`distance` is in m")
+    for text in ("12'000", "12\u2019000\u2019000"):
+        bad(QUOTE.replace("mass 2", "mass " + text), "not a whole number: "
+            "between the groups of a long number stands `_`")
+    for text in ("3e4", "1.5E+6", "0x10"):
+        bad(QUOTE.replace("mass 2", "mass " + text), "not a whole number: it "
+            "is written with all its digits")
+    for text in ("50%", "1/2", "780_000;", "3-4", "187_OOO", "5m\u00b2"):
+        told = pack.packed(QUOTE.replace("mass 2", "mass " + text))[1][0].what
+        check(told == "`%s` after `mass` is not a whole number" % text,
+              "no number", told)
+    for text in ("km", "KM", "kg", "tonnes"):
+        bad(QUOTE.replace("distance 3", "distance 3 " + text),
+            "`%s` is no word here: a number stands without its unit; "
+            "`distance` is in m" % text)
+    bad(QUOTE.replace("mass 2", "mass 12 000 000"), "`000` has no word before "
+        "it that says what it is; between the groups of a long number")
 
 
 def bad(line, what, *expected):
@@ -102,14 +238,24 @@ def bad(line, what, *expected):
 
 def bad_lines():
     bad("elemnt category 1", "did you mean `element`?", "category, entry")
-    bad("Category kind 1", "did you mean `category`?")
-    bad("zzz", "no record is called `zzz`", "element or quote")
+    bad("Kategory kind 1", "did you mean `category`?")
+    bad("zzz", "no record is called `zzz`", "expected a line that begins with "
+        "category, entry, element, quote or name")
+    bad("category kind 1 close -1", "`-1` after `close` is not a whole number")
+    bad(ENTRY.replace("quantity", "fuel"), "did you mean `quantity`?")
+    bad(ELEMENT.replace("amount 4", "amount x"), "`x` after `amount`",
+        "`amount` is in kg, or heads for passengers")
+    check(pack.packed("element category 1")[1][0].expected == "expected "
+          "element with category, chain, code, amount and distance",
+          "what is offered")
     bad("14083", "no record is called `14083`")
     bad("category", "missing: kind", "category with kind; it may have close")
-    bad("category kind", "no number after `kind`", "12_000_000")
+    bad("category kind", "no number after `kind`", "expected freight (1)")
     bad("category kind close", "no number after `kind`")
     bad("category kind one", "`one` after `kind`")
-    bad("category 1", "`1` has no word before it", "category with kind")
+    for line in ("category 1", "category 1 kind 2", "category 1: kind 2"):
+        bad(line, "has no word before it that says what it is; records are "
+            "numbered by their order", "category with kind")
     bad("category kind 1 1", "`1` has no word before it")
     bad("category kind 1 000", "`000` has no word before it")
     bad("category kind 1 close 1 1", "`1` has no word before it")
@@ -118,7 +264,7 @@ def bad_lines():
     bad("category kind 1 closed", "did you mean `close`?")
     bad("category close knd 1", "did you mean `kind`?")
     bad("category kind 1 close 1.5", "`1.5` after `close`")
-    bad("category kind 1 adjust", "`adjust` is no word of this record")
+    bad("category kind 1 adjust", "`adjust` is no word of `category`")
     bad("category kind 1: close", "`1:` after `kind`")
     bad("entry category 1",
         "missing: group, quantity, operation and provision",
@@ -126,14 +272,40 @@ def bad_lines():
     bad(ENTRY.replace("group 2", ""), "missing: group")
     bad(ENTRY + " chain 3", "`chain` is no word")
     bad("element category 1 chain 2 code 3", "missing: amount and distance",
-        "chain, code, amount and distance; it may have adjust, operation and "
-        "provision")
-    bad(ELEMENT.replace("amount", "mass"), "`mass` is no word")
-    bad(QUOTE.replace("mass", "amount"), "`amount` is no word", "chain, mass")
+        "chain, code, amount and distance")
+    bad(ELEMENT + " " + QUOTE, "`quote` begins a record, behind another one",
+        "a line for each record")
+    bad(ELEMENT.replace("code 3", "code 220 cabins"), "`cabins` is no word of "
+        "`element`")
+    bad(ELEMENT.replace("category 1", "category A"), "`A` after `category`",
+        "`category` is a number, from 1 on in their order")
+    bad(ELEMENT.replace("amount", "mass"), "`mass` is no word of `element`; "
+        "did you mean `amount`?")
+    bad(ELEMENT.replace("distance", "length"), "did you mean `distance`?")
+    bad(ELEMENT.replace("chain 2", "chain Mills"), "`Mills` after `chain`",
+        "`chain` is a number from 1 to 10,000, and `name` gives it a name")
+    bad(QUOTE.replace("mass", "amount"), "did you mean `mass`?", "chain, mass",
+        "it may have adjust")
     bad(QUOTE + " category 0", "`category` is no word")
     bad(QUOTE + " code 0", "`code` is no word")
     bad(QUOTE.replace("distance 3", "distance"), "no number after `distance`")
     bad(QUOTE.replace(" ", "\u00a0") + " None", "`None` is no word")
+    bad("element category 1 chian 2 code 3 amount 4 distance 5",
+        "`chian` is no word of `element`; did you mean `chain`?")
+
+
+def calls_in_a_text():
+    """A call in a book's text gets a hint."""
+    for line in ("close category 1", "close", "Close 1"):
+        bad(line, "no record is called `close`", "write `close` at the end of "
+            "the category's line, as in `category kind freight close`")
+    for word, record in (("open", "category"), ("post", "entry"),
+                         ("enrol", "element")):
+        bad(word + " 1", "no record is called `%s`" % word,
+            "has `%s` for it" % record)
+    for word in ("strike", "statement", "intensity", "fresh", "load", "show"):
+        bad(word + " 1", "no record is called `%s`" % word,
+            "`tools/quay play`")
 
 
 def widths():
@@ -153,8 +325,9 @@ def widths():
                 if fits:
                     check(not pack.packed(changed)[1], "fits", changed)
                 else:
-                    bad(changed, "does not fit %d bits" % most.bit_length(),
-                        "at most {:,}".format(most))
+                    bad(changed, "is too large: it does not fit %d bits"
+                        % most.bit_length(), "at most {:,}, and the ledger's "
+                        "own limits are lower".format(most))
 
 
 def too_many_bytes():
@@ -166,7 +339,15 @@ def too_many_bytes():
     for line in ("category kind 1", ENTRY, QUOTE):
         problems = pack.packed("\n".join(fits + [line]))[1]
         check([problem.number for problem in problems] == [345]
-              and "16,384" in problems[0].what, "too long", problems)
+              and problems[0].what == "from this record on there is no room: "
+              "the file would pass 16,384 bytes", "too long", problems)
+    # However many there are, they are told once, among other bad lines.
+    problems = pack.packed("\n".join(["zzz"] + fits + [QUOTE] * 60
+                                     + ["zzz"]))[1]
+    check([problem.number for problem in problems] == [1, 346, 406],
+          "told once", problems)
+    check("16 categories, 64 entries and 256 elements and quotes; here are 4, "
+          "0 and 400" in problems[1].expected, "the limit", problems[1])
 
 
 def run(*arguments, text=b""):
@@ -187,13 +368,30 @@ def commands():
     status, data, message = run(text=b"category kind 1\nentry\n")
     check((status, data) == (1, b"") and message.startswith("line 2: missing"),
           "a bad line", message)
-    status, data, message = run(text=b"what?\n" * 14 + b"\x1b[1m\xff" * 200)
+    status, data, message = run(text=b"\x1b[1m\xff" * 200 + b"\nwhat?" * 14)
     check((status, data) == (1, b"") and "and 5 more bad lines" in message
-          and message.isascii() and "\x1b" not in message, "many", message)
+          and "`?[1m" in message and "\x1b" not in message, "many", message)
     status, data, message = run(os.path.join(EXAMPLES, "none.txt"))
     check((status, data) == (1, b"") and "cannot be read" in message,
           "no such text", message)
-    check(run("a", "b")[:2] == (2, b""), "two texts")
+    check(run("a", "b") == (2, b"", "usage: pack.py [TEXT]\n"), "two texts")
+    status, data, message = run(text=b"# nothing")
+    check((status, data, message) == (
+        0, file_of(), "note: there is no record in this text\n"), "no record")
+    office = ("it is a document of an office program; save it there as plain "
+              "text")
+    for start, words in (
+        (EXAMPLE, "it is packed already; target/bin/quaymeter reads it from "
+                  "its standard input"),
+        (b"PK\x03\x04 ", office), (b"\xd0\xcf\x11\xe0 ", office),
+        (b"{\\rtf1", "it is a text with formats (RTF); save it as plain text"),
+        (b"%PDF-1.4", "it is a PDF; a book is plain text"),
+    ):
+        check(run(text=start) == (
+            1, b"", "standard input cannot be read: %s\n" % words), "no text")
+    check(run(text=b"\x7fELF\0\0\n\0")
+          == (1, b"", "standard input is no text; save it as plain text, in "
+              "UTF-8\n"), "a program")
 
 
 def examples():
@@ -221,17 +419,16 @@ def refusals():
     text = pack.read(os.path.join(EXAMPLES, "document.txt"))
     for old, new, printed in (
         ("entry category 1", "entry category 2", b"refused 2 2 1\n"),
-        ("kind 1", "kind 9", b"refused 3 1 1\n"),
-        ("chain 4", "chain 0", b"refused 3 3 2\n"),
-        ("chain 4 code 0", "chain 4 code 100", b"refused 6 3 2\n"),
+        ("kind freight", "kind 9", b"refused 3 1 1\n"),
+        ("chain 4 code", "chain 0 code", b"refused 3 3 2\n"),
+        ("chain 4 code ambient", "chain 4 code 100", b"refused 6 3 2\n"),
         ("mass 1_000", "mass 0", b"refused 7 3 3\n"),
-        ("category kind 1 close", "category kind 1\n" * 17,
+        ("category kind freight close", "category kind 1\n" * 17,
          b"refused 8 1 17\n"),
-        ("group 0", "group 2", b"refused 9 4 1\n"),
+        ("group all", "group frozen", b"refused 9 4 1\n"),
         ("quantity 12_000_000", "quantity 1_000_000_000_000",
          b"refused 10 2 1\n"),
-        ("category kind 1 close", "category kind 1 close 2",
-         b"refused 13 1 1\n"),
+        ("kind freight close", "kind freight close 2", b"refused 13 1 1\n"),
         ("amount 1_000", "amount 1_000 adjust", b"refused 13 3 1\n"),
     ):
         check(old in text, "the example has", old)
@@ -257,9 +454,14 @@ def voyage(data):
 
 
 good_lines()
+value_words()
+forms()
+notes()
+names()
 refused_by_the_ledger()
 numbers()
 bad_lines()
+calls_in_a_text()
 widths()
 too_many_bytes()
 commands()

@@ -1,0 +1,158 @@
+#!/usr/bin/env python3
+"""Compares `quay` over the built programs with `quay` over the separate
+calculation.
+
+    python3 tools/checks/check_quay.py [SEED]
+
+It wants the programs that `rt check` builds. The examples, random books, the
+same with damage, and random lists of calls are given to each command; status,
+output and messages have to be the same, and no difference may be told. The
+seed makes other books and lists. Prints `N runs agree`, or the first
+difference with exit status 1.
+"""
+
+import os
+import random
+import subprocess
+import sys
+
+sys.path.insert(0, os.path.dirname(os.path.dirname(os.path.abspath(__file__))))
+
+from cases.random_cases import by_bits, one_of
+from cases.random_files import random_parts
+from checks.quay_runs import (
+    CLASS, DOCUMENT, ROOT, VOYAGE, calculated, run, stored, text_of)
+from command.main import BAD_TEXT, CANNOT, DIFFERENT, DONE, REFUSED
+from command.programs import PROVED
+
+SEED = 1
+BOOKS = 120
+LISTS = 60
+QUAY = os.path.join(ROOT, "tools", "quay")
+
+SHEETS = (("sheet",), ("sheet", "--tonnes"), ("sheet", "--csv"),
+          ("sheet", "--csv", "--tonnes"))
+
+
+def damaged(rng, parts):
+    """The records of a book with one number changed."""
+    parts = [list(table) for table in parts]
+    table = one_of(rng, [table for table in parts if table] or [[]])
+    if table:
+        place = rng.randrange(len(table))
+        record = list(table[place])
+        field = rng.randrange(len(record))
+        record[field] = one_of(rng, (0, 1, 2, 3, 9, 100, 10_001,
+                                     by_bits(rng, 31)))
+        table[place] = tuple(record)
+    return parts
+
+
+def books(rng):
+    """Texts of books with names."""
+    for number in range(BOOKS):
+        parts = random_parts(rng, (3, 6, 9) if number % 6 else (16, 64, 60))
+        for records in (parts, damaged(rng, parts), damaged(rng, parts)):
+            yield "name 1 First\n%s\nname 10_000 Last" % text_of(*records)
+
+
+def random_line(rng):
+    category = 1 + rng.randrange(3)
+    chain = one_of(rng, (1, 2, 3))
+    return one_of(rng, (
+        "open %d" % rng.randrange(5),
+        "post category %d group %d quantity %d operation %d provision %d" % (
+            category, rng.randrange(3), by_bits(rng, 41), by_bits(rng, 34),
+            by_bits(rng, 34)),
+        "enrol category %d chain %d code %d amount %d distance %d" % (
+            category, chain, one_of(rng, (0, 1, 2, 100, 250)),
+            by_bits(rng, 20), by_bits(rng, 26)),
+        "quote chain %d mass %d distance %d operation %d provision %d" % (
+            chain, by_bits(rng, 30), by_bits(rng, 26), by_bits(rng, 30),
+            by_bits(rng, 30)),
+        "strike %d" % (1 + rng.randrange(6)), "close %d" % category,
+        "statement %d" % chain,
+        "intensity %d %d" % (category, one_of(rng, (0, 1, 2, 100))),
+        "show", "load " + one_of(rng, (DOCUMENT, VOYAGE, "# none")),
+    )[:9 + (rng.randrange(20) == 0)])
+
+
+def lists(rng):
+    """Lists of calls; a line that is none may be among them."""
+    for _ in range(LISTS):
+        lines = ["open %d" % (1 + rng.randrange(4)) for _ in range(3)]
+        yield "\n".join(lines + [random_line(rng) for _ in range(60)])
+
+
+def runs(seed):
+    """The words of a command and its standard input."""
+    rng = random.Random(seed)
+    for path in (DOCUMENT, VOYAGE):
+        for words in SHEETS:
+            yield (*words, path), ""
+        for chain in range(40):
+            yield ("explain", path, str(chain)), ""
+    yield ("play", CLASS), ""
+    for text in books(rng):
+        for words in SHEETS:
+            yield (*words, "-"), text
+        for chain in (1, 2, 10_000):
+            yield ("explain", "-", str(chain)), text
+    for text in lists(rng):
+        yield ("play",), text
+
+
+def compare(words, text):
+    """The status of a run that is the same in both ways."""
+    proved, reckoned = (run(*words, text=text.encode(), programs=programs)
+                        for programs in (PROVED, calculated()))
+    if proved != reckoned or proved[0] == DIFFERENT:
+        raise SystemExit("quay %s differs\n%s\nprograms    %r\ncalculation %r"
+                         % (" ".join(words), text, proved, reckoned))
+    return proved[0]
+
+
+# The command itself.
+
+def expect(is_right, what, found):
+    if not is_right:
+        raise SystemExit("%s: %r" % (what, found))
+
+
+def as_a_command():
+    """`tools/quay` as a process: its status, its output, and an output that
+    nobody reads to its end."""
+    for words, status, output in (
+        (("sheet", DOCUMENT), DONE, stored("crates", "quaymeter", "stdout")),
+        (("play", CLASS), REFUSED, stored("examples", "class-answers.txt")),
+        (("sheet", "none.txt"), BAD_TEXT, ""),
+        (("explain", DOCUMENT, "9"), CANNOT, ""),
+    ):
+        done = subprocess.run([QUAY, *words], stdout=subprocess.PIPE,
+                              stderr=subprocess.PIPE)
+        expect((done.returncode, done.stdout.decode()) == (status, output),
+               "quay " + " ".join(words), done)
+        expect((done.stderr == b"") == (status in (DONE, REFUSED)),
+               "its messages", done)
+    done = subprocess.run("'%s' play '%s' | head -1" % (QUAY, CLASS),
+                          shell=True, stdout=subprocess.PIPE,
+                          stderr=subprocess.PIPE)
+    expect((done.stdout.count(b"\n"), done.stderr) == (1, b""),
+           "an output that is not read", done)
+
+
+def main(arguments):
+    if len(arguments) > 1 or not all(map(str.isdecimal, arguments)):
+        print("usage: check_quay.py [SEED]", file=sys.stderr)
+        return 2
+    seed = int(arguments[0]) if arguments else SEED
+    statuses = [compare(words, text) for words, text in runs(seed)]
+    for status in (DONE, BAD_TEXT, REFUSED):
+        expect(status in statuses, "no run of status", status)
+    as_a_command()
+    print("%d runs agree" % len(statuses))
+    return 0
+
+
+if __name__ == "__main__":
+    sys.exit(main(sys.argv[1:]))

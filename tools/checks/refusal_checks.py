@@ -1,0 +1,335 @@
+"""Refusals in words: each message, and that one is found for every refusal of
+the stored cases."""
+
+import os
+
+import pack
+from calculation import loading, player
+from cases import book_cases
+from cases.file_writer import table_records
+from checks.quay_runs import CALCULATED, ROOT, tells_difference, text_of
+from command import playing, refusals, sheets
+
+STORED = os.path.join(ROOT, "crates", "replay", "stdin")
+
+POST = ("post category 1 group %s quantity %s operation %s provision %s")
+ENROL = "enrol category 1 chain %s code %s amount %s distance %s"
+QUOTE = ("quote chain %s mass %s distance %s operation %s provision %s "
+         "adjust %s")
+POSTED = POST % ("all", 1000, 10, 20)
+ENROLLED = ENROL % (7, "ambient", 100, 50)
+
+# Calls that are accepted, then one that is refused; its number, and what is
+# said of it.
+CALLS = (
+    # 2
+    ((), "close 1", 2,
+     "there is no category 1: the book has no category yet"),
+    (("open hub",), "close 2", 2,
+     "there is no category 2: the book has category 1 alone"),
+    (("open hub",) * 3, "intensity 0 0", 2,
+     "there is no category 0: the book has categories 1 to 3, numbered"),
+    ((), "strike 0", 2, "there is no entry 0: the book has no entry yet"),
+    (("open hub", POSTED, POSTED), "strike 3", 2,
+     "there is no entry 3: the book has entries 1 and 2, numbered"),
+    ((), ENROLLED, 2, "there is no category 1"),
+    # 3
+    ((), "open 9", 3, "there is no kind 9: a kind is 1 freight"),
+    (("open 1",), POST % (3, 1, 1, 1), 3,
+     "there is no group 3: a group is 0 all, 1 chilled or 2 frozen"),
+    ((), "statement 10001", 3,
+     "there is no chain 10_001: a chain is 1 to 10_000"),
+    (("open 1",), ENROL % (0, 50, 1, 1), 3,
+     "there is no chain 0: a chain is 1 to 10_000",
+     "there is no code 50: a code is 0 ambient, 1 chilled or 2 frozen for "
+     "freight, and 100 to 1000 for passengers"),
+    (("open 1",), "intensity 1 101", 3,
+     "there is no code 101: an intensity is of code 0 ambient"),
+    ((), QUOTE % (1, 1, 1, 1, 1, 2), 3,
+     "there is no adjust 2: adjust is 0 or 1, and adds 95 km for air"),
+    # 4
+    (("open 1", ENROLLED, "close 1"), "close 1", 4,
+     "category 1 is closed already: its emissions are handed out, and it "
+     "takes no more entries, elements or strikes; begin again with `fresh` or "
+     "`load`"),
+    (("open 1", ENROLLED, "close 1"), ENROLLED, 4,
+     "category 1 is closed: its emissions are handed out"),
+    (("open 1", ENROLLED, "close 1"), POSTED, 4, "category 1 is closed: "),
+    (("open 1", POSTED, "strike 1"), "strike 1", 4,
+     "entry 1 is struck already: an entry is struck once"),
+    (("open 1", POSTED, ENROLLED, "close 1"), "strike 1", 4,
+     "category 1 is closed, and entry 1 is of it: "),
+    # 5
+    (("open 1", ENROLLED), "intensity 1 ambient", 5,
+     "category 1 is still open: an intensity is known when"),
+    # 6
+    (("open freight",), ENROL % (7, 100, 1, 1), 6,
+     "passengers in a freight category: category 1 is of kind 1, freight, "
+     "and takes the codes 0 ambient, 1 chilled and 2 frozen; code 100 is "
+     "passenger class 100"),
+    (("open hub",), ENROL % (7, 250, 1, 0), 6,
+     "passengers in a freight hub: category 1 is of kind 4, freight hub"),
+    (("open passengers",), ENROL % (7, 2, 1, 1), 6,
+     "freight in a category of passengers: category 1 is of kind 2, "
+     "passengers, and takes the codes 100 to 1000 of classes; code 2 is "
+     "frozen freight"),
+    (("open passengers",), POST % ("chilled", 1, 1, 1), 6,
+     "emissions of chilled freight in a category of passengers: category 1 "
+     "is of kind 2, passengers, and takes entries of group 0"),
+    # 7
+    (("open 1",), POST % (0, 10 ** 12 + 1, 10 ** 10 + 1, 10 ** 10 + 2), 7,
+     "quantity 1_000_000_000_001 is out of range: expected 0 to "
+     "1_000_000_000_000, in thousandths of a unit",
+     "operation factor 10_000_000_001 is out of range: expected 0 to "
+     "10_000_000_000, in mg CO2e per unit",
+     "provision factor 10_000_000_002 is out of range"),
+    (("open 1",), ENROL % (7, 0, 0, 0), 7,
+     "amount 0 is out of range: expected 1 to 1_000_000_000, in kg",
+     "distance 0 is out of range: expected 1 to 40_000_000, in m"),
+    (("open 3",), ENROL % (7, 100, 1_000_001, 1), 7,
+     "amount 1_000_001 is out of range: expected 1 to 1_000_000, in heads"),
+    (("open hub",), ENROL % (7, 0, 1, 5), 7,
+     "in a freight hub distance 5 is out of range: a hub has no distances: "
+     "write `distance 0`"),
+    ((), QUOTE % (1, 0, 0, 10 ** 9 + 1, 10 ** 9 + 2, 0), 7,
+     "mass 0 is out of range: expected 1 to 1_000_000_000, in kg",
+     "distance 0 is out of range",
+     "operation intensity 1_000_000_001 is out of range: expected 0 to "
+     "1_000_000_000, in mg CO2e per tonne-km",
+     "provision intensity 1_000_000_002 is out of range"),
+    # 8
+    (("open 1",) * 16, "open 1", 8,
+     "no room for another category: a book has room for 16 categories"),
+    (("open 1",) + (POSTED,) * 64, POSTED, 8,
+     "no room for another entry: a book has room for 64 entries, struck ones "
+     "too"),
+    (("open 1",) + (ENROLLED,) * 256, ENROLLED, 8,
+     "no room for another element: a book has room for 256 elements and "
+     "quotes"),
+    (("open 1",) + (ENROLLED,) * 256, QUOTE % (1, 1, 1, 1, 1, 0), 8,
+     "no room for another element"),
+    # 9
+    (("open 1",), "close 1", 9,
+     "no element in category 1: category 1 needs an element to carry its "
+     "emissions"),
+    (("open 1", POST % (1, 1, 1, 0)), "close 1", 9,
+     "no element in category 1: category 1 needs an element",
+     "chilled emissions and no chilled element in category 1: entry 1 benefits "
+     "chilled freight alone"),
+    (("open 1", ENROLLED, POST % (1, 1, 0, 1), POST % (1, 1, 1, 0),
+      POST % (2, 1, 1, 1), POST % (2, 1, 1, 1), "strike 4", "open 1",
+      (POST % (2, 1, 1, 1)).replace("category 1", "category 2")), "close 1", 9,
+     "chilled emissions and no chilled element in category 1: entry 1 and "
+     "entry 2 benefit chilled freight alone; category 1 needs an element of "
+     "`code chilled`, or these emissions `group all`",
+     "frozen emissions and no frozen element in category 1: entry 3 benefits "
+     "frozen freight alone; category 1 needs an element of `code frozen`"),
+    (("open 2", ENROL % (7, 100, 1, 1), "close 1"), "intensity 1 0", 9,
+     "no freight in category 1: category 1 carries none, so it has no "
+     "intensity for it"),
+    (("open 1", ENROLLED, "close 1"), "intensity 1 chilled", 9,
+     "no chilled freight in category 1: "),
+    (("open 1", ENROLLED, "close 1"), "intensity 1 lowest", 9,
+     "no passengers in category 1: "),
+    # 10
+    (("open 1",), POST % (0, 10 ** 12, 10 ** 6 + 1, 10 ** 10), 10,
+     "more than 10^18 µg in operation: the unstruck entries and the quotes "
+     "would add up to 1_000_001_000_000_000_000 µg; a quantity is in "
+     "thousandths of a unit, a factor in mg",
+     "more than 10^18 µg in provision: the unstruck entries and the quotes "
+     "would add up to 10_000_000_000_000_000_000_000 µg"),
+    ((QUOTE % (1, 10 ** 9, 1000, 10 ** 3, 2, 0),),
+     QUOTE % (1, 10 ** 9, 40_000_000, 10 ** 9, 0, 0), 10,
+     "more than 10^18 µg in operation: the unstruck entries and the quotes "
+     "would add up to 40_000_000_001_000_000_000_000 µg; an intensity is "
+     "in mg per tonne-km, a mass in kg"),
+    (("open 1",) + (ENROL % (7, 0, 10 ** 9, 40_000_000),) * 2,
+     ENROL % (7, 0, 10 ** 9, 40_000_000), 10,
+     "more than 10^17 of activity: kg × m over all elements, a head counted as "
+     "100 kg and a hub without m, would add up to 120_000_000_000_000_000"),
+    # Emissions at their limit are no reason for it.
+    (("open 1", POST % (0, 10 ** 12, 10 ** 6, 10 ** 6))
+     + (ENROL % (7, 0, 10 ** 9, 40_000_000),) * 2,
+     ENROL % (7, 0, 10 ** 9, 40_000_000), 10, "more than 10^17 of activity"),
+    (("open 3",) + (ENROL % (7, 0, 10 ** 9, 40_000_000),) * 2
+     + (ENROL % (7, 1000, 10 ** 6, 40_000_000),) * 5,
+     ENROL % (7, 1000, 1, 1), 10,
+     "would add up to 100_000_000_000_000_100"),
+    (("open 1",) + (ENROL % (7, 0, 10 ** 9, 40_000_000),) * 2,
+     QUOTE % (1, 10 ** 9, 40_000_000, 0, 0, 0), 10,
+     "would add up to 120_000_000_000_000_000"),
+    (("open 1", "open hub") + (ENROL % (7, 0, 10 ** 9, 40_000_000),) * 2
+     + (ENROL % (7, 0, 10 ** 9, 20_000_000),),
+     (ENROL % (7, 0, 5, 0)).replace("category 1", "category 2"), 10,
+     "would add up to 100_000_000_000_000_005"),
+    (("open 1", POST % (0, 10 ** 12, 10 ** 6, 0),
+      ENROL % (7, 0, 1, 1), "close 1"), "intensity 1 0", 10,
+     "an intensity above 10^15 mg: operation would be "
+     "1_000_000_000_000_000_000_000"),
+)
+
+
+def each_call(check):
+    for before, call, number, *told in CALLS:
+        session = playing.Session(CALCULATED)
+        for line in before:
+            session.answer(playing.request_of(line))
+        check(session.refused == 0, "accepted", before)
+        first, *lines = session.answer(playing.request_of(call))
+        check(first == "refused %d: %s" % (number, refusals.MEANINGS[number]),
+              "the number", call, first)
+        check(len(lines) == len(told), "as many reasons", call, lines)
+        for line, words in zip(lines, told):
+            check(line.startswith("    ") and words in line, "a reason", line,
+                  words)
+    given = {(call.split()[0], number) for _, call, number, *_ in CALLS}
+    possible = {(name, number) for name, numbers in book_cases.ANSWERS.items()
+                for number in numbers if number > 1}
+    check(given <= possible and {number for _, number in given}
+          == {number for _, number in possible}, "every number", given)
+
+
+# Files.
+
+FREIGHT = (1, 7, 0, 0, 100, 50, 0, 0)
+
+# The records of a file, and the line that is told.
+FILES = (
+    (((1, 2),), (), (), "line 1: category 1: there is no close 2 (refused 13)",
+     "`close` stands alone, or is 0 or 1"),
+    (((9, 0),), (), (), "line 1: category 1: there is no kind 9 (refused 3)",
+     "a kind is 1 freight"),
+    (((1, 0),) * 17, (), (),
+     "line 17: category 17: no room for another category (refused 8)",
+     "a book has room for 16 categories"),
+    (((1, 0),), ((2, 0, 1, 1, 1),), (),
+     "line 2: entry 1: there is no category 2 (refused 2)",
+     "the book has category 1 alone"),
+    (((1, 0),), (), (FREIGHT, (1, 7, 100, 0, 1, 1, 0, 0)),
+     "line 3: element 2: passengers in a freight category (refused 6)",
+     "category 1 (line 1) is of kind 1, freight"),
+    (((1, 0),), (), (FREIGHT, (1, 7, 0, 1, 1, 1, 0, 2)),
+     "line 3: element 2: adjust and provision for an element of a category "
+     "(refused 13)", "only a quote has an air adjustment or intensities"),
+    ((), (), ((0, 7, 3, 0, 1, 1, 0, 0),),
+     "line 1: element 1: code 3 for an element of category 0 (refused 13)",
+     "an element of category 0 is a quote"),
+    (((1, 0),), (), ((1, 7, 0, 0, 0, 0, 0, 0),),
+     "line 2: element 1: amount 0 is out of range (refused 7)",
+     "expected 1 to 1_000_000_000, in kg",
+     "distance 0 is out of range: expected 1 to 40_000_000, in m"),
+    (((1, 0), (1, 1)), ((2, 1, 1, 1, 1),), ((2, *FREIGHT[1:]),),
+     "line 2: closing of category 2: chilled emissions and no chilled element "
+     "in category 2 (refused 9)",
+     "entry 1 (line 3) benefits chilled freight alone; category 2 (line 2) "
+     "needs an element of `code chilled`"),
+)
+
+
+def refusal_lines(text):
+    try:
+        sheets.Sheet(CALCULATED, text)
+    except sheets.RefusedFile as refused:
+        return refused.args[0]
+    return None
+
+
+def each_file(check):
+    for categories, entries, elements, told, *looks in FILES:
+        text = pack.Text(text_of(categories, entries, elements))
+        lines = refusal_lines(text)
+        check(lines is not None and lines[0] == told, "told", told, lines)
+        check(lines[1].strip() in text.lines, "the line", lines)
+        check(len(lines) == 2 + len(looks) and all(
+            look in line for look, line in zip(looks, lines[2:])), "look",
+            looks, lines)
+
+
+def at_its_line(check):
+    """Whatever stands before it, and however its lines end."""
+    text = ("\ufeff# a book\n\n\tcategory\tkind freight\n# more\nelement "
+            "category 1 chain 7 code 0 amount 1 distance 1\n  element category "
+            "1 chain 7 code 100 amount 1 distance 1 # seats\n")
+    for end in ("\n", "\r\n", "\r"):
+        lines = refusal_lines(pack.Text(text.replace("\n", end)))
+        check(lines[:2] == [
+            "line 6: element 2: passengers in a freight category (refused 6)",
+            "    element category 1 chain 7 code 100 amount 1 distance 1 # "
+            "seats"] and "category 1 (line 3)" in lines[2], "line 6", lines)
+
+
+# The stored cases.
+
+def every_stored_refusal(check):
+    """Every refused call and every stopped file of the stored cases has a
+    reason, and every number that a call can give is among them."""
+    with open(STORED, "rb") as file:
+        data = file.read()
+    played = player.Player()
+    found = set()
+    for start in range(0, len(data), player.RECORD.size):
+        record = data[start:start + player.RECORD.size]
+        coming = played.state.file
+        numbers = played.play(record)
+        operation, *arguments = player.RECORD.unpack(record)
+        if coming is not None:
+            if numbers is not None:
+                check_load(check, coming.data(), numbers)
+        elif operation in player.CALLS and numbers and numbers[0] > 1:
+            name = player.CALLS[operation]
+            arguments = player.used_arguments(name, arguments)
+            lines = list(refusals.of_call(
+                numbers[0], played.state.words[:played.state.lent], name,
+                arguments))
+            check(len(lines) > 1, "a reason", name, arguments, lines)
+            found.add((name, numbers[0]))
+    possible = {(name, number) for name, numbers in book_cases.ANSWERS.items()
+                for number in numbers if number > 1}
+    check(found == possible, "every number of every call",
+          possible ^ found)
+
+
+def check_load(check, data, numbers):
+    if numbers[0] in (0, 1, loading.BAD_FILE, loading.BAD_SECTION):
+        return
+    tables = [table_records(data, table) for table in (1, 2, 3)]
+    text = pack.Text(text_of(*tables))
+    if not text.problems:
+        lines = refusal_lines(text)
+        check(lines is not None and len(lines) > 2
+              and "(refused %d)" % numbers[0] in lines[0], "a stopped file",
+              numbers, lines)
+
+
+# Wrong programs.
+
+def differences(check):
+    """A number that the book does not give is told."""
+    session = playing.Session(CALCULATED)
+    for line in ("open 1", ENROLLED):
+        session.answer(playing.request_of(line))
+    for number in (1, 3, 4, 9):
+        tells_difference(
+            check, "answers %d to `close 2`, and 2 is reckoned" % number,
+            lambda: list(refusals.of_call(number, session.ledger.words,
+                                          "close", (2,))))
+    tells_difference(
+        check, "refuses with 1, and nothing of that number",
+        lambda: list(refusals.of_call(1, [0] * 2404, "close", (2,))))
+    # A file that is stopped where 13 holds and with another number, with 13
+    # where it does not hold, or where there is no record.
+    for numbers, flag in (((3, 1, 1), 2), ((13, 1, 1), 0), ((11, 0, 0), 0),
+                          ((3, 7, 99), 0)):
+        text = pack.Text(text_of(((9, flag),), (), ()))
+        tells_difference(
+            check, "refuses with %d at record %d of table %d, and nothing"
+            % (numbers[0], numbers[2], numbers[1]),
+            refusals.of_file, numbers, text, session.ledger)
+
+
+def run(check):
+    each_call(check)
+    each_file(check)
+    at_its_line(check)
+    every_stored_refusal(check)
+    differences(check)

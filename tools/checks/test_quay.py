@@ -1,0 +1,912 @@
+#!/usr/bin/env python3
+"""Tests the command `quay`, with the separate calculation in the place of the
+proved programs.
+
+    python3 tools/checks/test_quay.py
+
+Prints `N checks passed`, or what failed with exit status 1.
+"""
+
+import io
+import os
+import re
+import sys
+import tempfile
+from unittest import mock
+
+sys.path.insert(0, os.path.dirname(os.path.dirname(os.path.abspath(__file__))))
+
+import pack
+from calculation import book
+from calculation.sheet import sheet
+from checks import explain_checks, refusal_checks
+from checks.checking import Checks
+from checks.quay_runs import (
+    BOARD, CALCULATED, CLASS, DOCUMENT, EXAMPLES, ROOT, VOYAGE, calculated,
+    run, stored, tells_difference)
+from command import amounts, explaining, main, playing, programs, refusals
+from command.fields import Wrong
+from command.ledger import loaded
+from command.programs import Programs, Unavailable
+
+check = Checks()
+
+
+# Amounts.
+
+def shown_amounts():
+    for number, wanted in ((0, "0"), (1, "0.000000000001"),
+                           (10 ** 12, "1"), (34_020_000_000_000, "34.02"),
+                           (10 ** 18 + 5, "1_000_000.000000000005"),
+                           (999_999_999_999, "0.999999999999")):
+        check(amounts.tonnes(number) == wanted, "tonnes", number)
+    check(amounts.moved(16_189_444, 3) == "16_189.444", "moved")
+    check(amounts.emissions(1500) == "1_500 µg (0.0000000015 t)", "both")
+    check([amounts.counted(number, "entry", "entries") for number in (0, 1, 2)]
+          == ["0 entries", "1 entry", "2 entries"], "counted")
+    rows = [["a", "b", "c"], ["x", "10", "1.25"], ["long", "7", "10"]]
+    check(amounts.aligned([["t", "n"], ["5", "1"], ["10", "2"]],
+                          (amounts.POINT, amounts.RIGHT))
+          == [" t  n", " 5  1", "10  2"], "a table of whole numbers")
+    check(amounts.aligned(rows, (amounts.LEFT, amounts.RIGHT, amounts.POINT))
+          == ["a      b      c", "x     10   1.25", "long   7  10"], "a table")
+
+
+# quay sheet
+
+DOCUMENT_SHEET = sheet(pack.Text(pack.read(DOCUMENT)).data()).decode()
+
+
+DOCUMENT_TABLE = """\
+chain  name             elements  waiting  operation t  provision t  total t
+    4  Coastal Dairies         1        0       28.98         5.04    34.02
+    7  Harbour Mills           2        0        9.691        1.685   11.376
+"""
+
+
+def plain_sheets():
+    check(run("sheet", DOCUMENT) == (0, DOCUMENT_SHEET, ""), "as it is")
+    check(DOCUMENT_SHEET == stored("crates", "quaymeter", "stdout"),
+          "the stored sheet")
+    with open(DOCUMENT, "rb") as file:
+        check(run("sheet", "-", text=file.read())
+              == (0, DOCUMENT_SHEET, ""), "standard input")
+    for command, ending in ((("sheet", "-"), "no sheet is printed"),
+                            (("explain", "-", "7"), "nothing is explained")):
+        check(run(*command, text=b"# nothing") == (
+            1, "", "note: there is no record in this text\n%s\n" % ending),
+            "no record", command)
+    heading = DOCUMENT_SHEET.splitlines(True)[0]
+    check(run("sheet", "-", text=b"category kind hub") == (
+        0, heading, "no element is in this book, so the sheet has no lines\n"),
+        "no element")
+
+
+NAMED = b"""\
+name 7 Harbour Mills
+name 5 Nobody
+category kind freight close
+category kind both
+category kind hub
+entry category 1 group all quantity 7 operation 1 provision 100_000_000
+element category 1 chain 7 code ambient amount 1 distance 1
+element category 1 chain 12 code frozen amount 2 distance 1
+element category 2 chain 7 code lowest amount 2 distance 1
+element category 2 chain 7 code chilled amount 2 distance 1
+element category 3 chain 9999 code ambient amount 2 distance 0
+"""
+WAITING = """\
+category 2 (line 4) is not closed, so these wait for it and have no \
+emissions of it yet:
+    chain 7 (Harbour Mills): 2 of its 3 elements
+    when all its entries are written, put `close` on line 4 and print the \
+sheet again
+category 3 (line 5) is not closed, so these wait for it and have no \
+emissions of it yet:
+    chain 9999: 1 of its 1 element
+    when all its entries are written, put `close` on line 5 and print the \
+sheet again
+"""
+UNUSED = "chain 5 (Nobody) is named and has no element\n"
+
+ODD = b"""\
+category kind freight close
+category kind freight
+category kind hub
+category kind freight
+entry category 2 group all quantity 7 operation 1 provision 1
+entry category 3 group all quantity 7 operation 1 provision 1
+entry category 3 group all quantity 7 operation 1 provision 1
+element category 1 chain 7 code ambient amount 1 distance 1
+"""
+ODD_REMARKS = """\
+category 1 (line 1) is closed and has no entries that count: its elements get \
+no emissions of it
+category 2 (line 2) is not closed and has no elements: 1 entry of it is in \
+nobody's line
+category 3 (line 3) is not closed and has no elements: 2 entries of it are in \
+nobody's line
+"""
+
+
+def tables():
+    check(run("sheet", "--tonnes", DOCUMENT) == (0, DOCUMENT_TABLE, ""),
+          "tonnes")
+    unnamed = re.sub("(?m)^name .*", "", stored("examples", "document.txt"))
+    check(run("sheet", "--tonnes", "-", text=unnamed.encode()) == (0, """\
+chain  elements  waiting  operation t  provision t  total t
+    4         1        0       28.98         5.04    34.02
+    7         2        0        9.691        1.685   11.376
+""", ""), "without names")
+    check(run("sheet", "--tonnes", "-", text=NAMED) == (0, """\
+chain  name           elements  waiting     operation t     provision t\
+         total t
+    7  Harbour Mills         3        2  0.000000000002  0.000233333333\
+  0.000233333335
+   12                        1        0  0.000000000005  0.000466666667\
+  0.000466666672
+ 9999                        1        1  0               0             \
+  0
+""" + WAITING, UNUSED), "names", run("sheet", "--tonnes", "-", text=NAMED))
+    check(run("sheet", "-", text=ODD)[2] == ODD_REMARKS, "nobody's line",
+          run("sheet", "-", text=ODD))
+    plain = sheet(pack.Text(NAMED.decode()).data()).decode()
+    check(run("sheet", "-", text=NAMED) == (0, plain, WAITING + UNUSED),
+          "waiting and names beside a plain sheet")
+
+
+def long_numbers():
+    """One number of more than 15 digits, and several."""
+    quotes = ["quote chain %d mass 1_000_000_000 distance 10_000_000 operation "
+              "20_000 provision 0" % chain for chain in (1, 2)]
+    small = "quote chain 1 mass 1 distance 1 operation 0 provision 1000"
+    for lines, told in (
+        (quotes, ""),
+        (quotes[:1] + [small], "a spreadsheet keeps 15 digits of a number; 1 "
+                               "number here has more\n"),
+        (quotes[:1] + [small, small.replace("operation 0", "operation 1000")],
+         "a spreadsheet keeps 15 digits of a number; 2 numbers here have "
+         "more\n"),
+    ):
+        found = run("sheet", "--csv", "-", text="\n".join(lines).encode())[2]
+        check(found == told, "digits", found)
+
+
+def spreadsheets():
+    check(run("sheet", "--csv", DOCUMENT) == (0, """\
+chain,name,elements,waiting,operation ug,provision ug,total ug
+4,Coastal Dairies,1,0,28980000000000,5040000000000,34020000000000
+7,Harbour Mills,2,0,9691000000000,1685000000000,11376000000000
+""", ""), "comma-separated")
+    check(run("sheet", "--csv", "--tonnes", DOCUMENT) == (0, """\
+chain,name,elements,waiting,operation t,provision t,total t
+4,Coastal Dairies,1,0,28.98,5.04,34.02
+7,Harbour Mills,2,0,9.691,1.685,11.376
+""", ""), "comma-separated in tonnes")
+    text = ("name 1 Müller, \"Söhne\"\nquote chain 1 mass 1_000_000_000 "
+            "distance 40_000_000 operation 20_001 provision 1")
+    status, output, _ = run("sheet", "--csv", "--tonnes", "-",
+                            text=text.encode())
+    check((status, output) == (0, """\
+\ufeffchain,name,elements,waiting,operation t,provision t,total t
+1,"Müller, ""Söhne\""",1,0,800040,40,800080
+"""), "a name in quotation marks", output)
+    for name in ("=1+1", "+49", "-1", "@x"):
+        output = run("sheet", "--csv", "-", text=("name 1 %s\nquote chain 1 "
+                     "mass 1 distance 1 operation 1 provision 1" % name)
+                     .encode())[1]
+        check(output.endswith("1,'%s,1,0,0,0,0\n" % name), "no formula", output)
+    text = text.replace("provision 1", "provision 1\nquote chain 1 mass 1 "
+                        "distance 1 operation 1000 provision 0")
+    check(run("sheet", "--csv", "-", text=text.encode())[2]
+          == "a spreadsheet keeps 15 digits of a number; 2 numbers here have "
+             "more\n", "many digits")
+
+
+def bad_texts():
+    status, output, told = run("sheet", "-", text=b"category kind 1\nzzz\n")
+    check((status, output) == (1, "") and told.startswith(
+        "line 2: no record is called `zzz`\n    zzz\n")
+        and told.endswith("\nno sheet is printed\n"), "a bad line", told)
+    status, output, told = run("sheet", os.path.join(EXAMPLES, "none.txt"))
+    check((status, output) == (1, "") and "none.txt cannot be read: No such "
+          "file or directory" in told, "no text", told)
+    check(run("sheet", "-", text=b"PK\x03\x04")[:2] == (1, ""), "no text")
+    check(run("sheet", "-", text=b"\x7fELF\0\n") == (
+        1, "", "- is no text; save it as plain text, in UTF-8\nno sheet is "
+        "printed\n"), "a program")
+    status, output, told = run("explain", "-", "7", text=b"zzz")
+    check((status, output) == (1, "") and told.endswith(
+        "\nnothing is explained\n"), "a bad line", told)
+    status, output, told = run("sheet", "no\x1bne\0")
+    check((status, output, told) == (1, "", "no?ne? is no name of a file\n"),
+          "no name", told)
+    status, output, told = run("sheet", "-", text=b"zzz\n" * 11)
+    check(told.endswith("\nand 1 more bad line\nno sheet is printed\n"),
+          "many", told)
+
+
+REFUSED_TEXT = stored("examples", "document.txt").replace(
+    "chain 4 code ambient", "chain 4 code 100")
+REFUSED_TOLD = """\
+line 20: element 2: passengers in a freight category (refused 6)
+    element category 1 chain 4 code 100 amount 3_000 distance 300_000
+    category 1 (line 12) is of kind 1, freight, and takes the codes 0 \
+ambient, 1 chilled and 2 frozen; code 100 is passenger class 100
+no sheet is printed
+"""
+
+
+def steering_signs():
+    """Signs that steer a terminal are not passed on."""
+    sign = "\x1b[1mx"
+    named = "name 1 %s\nquote chain 1 mass 1 distance 1 operation 1 provision 1"
+    refused = "category kind 9 # " + sign
+    for words, text in (
+        (("sheet", "-"), sign), (("sheet", "-"), "category kind " + sign),
+        (("sheet", "-"), "category %s" % sign), (("sheet", sign), ""),
+        (("sheet", "-"), "category kind 5%s" % sign),
+        (("sheet", "-"), "name %s Mills" % sign), (("sheet", "-"), refused),
+        (("sheet", "--tonnes", "-"), named % sign),
+        (("sheet", "--csv", "-"), named % sign),
+        (("explain", "-", "1"), named % sign),
+        (("explain", "-", sign), named % "Mills"),
+        (("play",), sign), (("play",), "open " + sign),
+        (("play",), "# " + sign + "\nshow"), (("play",), "load " + sign),
+        (("play",), "show " + sign), (("play",), "help " + sign),
+        (("play",), "save %s/%s" % (sign, sign)), (("play", sign), ""),
+    ):
+        found = "".join(run(*words, text=text.encode())[1:])
+        check("\x1b" not in found and "?[1mx" in found, "a sign", words, text,
+              found)
+    check(pack.shown("x" * 120) == "x" * 120
+          and pack.shown("x" * 121) == "x" * 120 + " ...", "a long text")
+
+
+def refused_texts():
+    for words in (("sheet", "-"), ("sheet", "--tonnes", "-"),
+                  ("sheet", "--csv", "-")):
+        found = run(*words, text=REFUSED_TEXT.encode())
+        check(found == (3, "", REFUSED_TOLD), "a refusal", words, found)
+    found = run("explain", "-", "7", text=REFUSED_TEXT.encode())
+    check(found == (3, "", REFUSED_TOLD.replace(
+        "no sheet is printed", "nothing is explained")), "explained", found)
+
+
+# quay explain
+
+def explanations():
+    text = pack.Text(stored("examples", "document.txt"))
+    lines = {chain: "\n".join(explaining.explanation(
+        text, loaded(CALCULATED, text.data())[0], chain)) + "\n"
+        for chain in (4, 7)}
+    for word, chain in (("4", 4), ("7", 7), ("0,007", 7),
+                        ("Harbour Mills", 7), ("harbour  mills", 7),
+                        ("COASTAL DAIRIES", 4)):
+        found = run("explain", DOCUMENT, word)
+        check(found == (0, lines[chain], ""), "explained", word, found)
+    twice = stored("examples", "document.txt").replace("Coastal Dairies", "7")
+    check(run("explain", "-", "7", text=twice.encode())[:2] == (0, lines[7]),
+          "a number comes before a name")
+    twice = twice.replace("name 4 7", "name 4 Harbour Mills")
+    for word, text, told in (
+        ("9", "", "no element is on chain 9; this book has chains 4 and 7"),
+        ("Mills", "", "no chain of this book has the name `Mills`; it has "
+                      "Coastal Dairies, Harbour Mills"),
+        ("1" * 30, "", "the number after `chain` is too large: it does not fit "
+                       "64 bits"),
+        ("harbour mills", twice, "`harbour mills` is the name of the chains 4 "
+                                 "and 7: give a number"),
+        ("x", "quote chain 1 mass 1 distance 1 operation 1 provision 1",
+         "no chain of this book has the name `x`"),
+        ("x", "category kind 1\n" + "\n".join("name %d a%d" % (chain, chain)
+                                               for chain in range(1, 22)),
+         "no chain of this book has the name `x`; it has %s, ..."
+         % ", ".join("a%d" % chain for chain in range(1, 21))),
+    ):
+        found = run("explain", "-" if text else DOCUMENT, word,
+                    text=text.encode())
+        check(found == (2, "", told + "\n"), "no chain", found)
+
+
+def stored_explanations():
+    """examples/explanations.txt has each of its commands with its output."""
+    heading, *parts = stored("examples", "explanations.txt").split("\n> ")
+    check(heading.startswith("# ") and len(parts) > 5, "explanations", heading)
+    for part in parts:
+        command, _, output = part.partition("\n")
+        words = command.split()
+        check(words[:2] == ["tools/quay", "explain"], "a command", command)
+        found = run("explain", os.path.join(ROOT, words[2]), words[3])
+        check(found == (0, output.rstrip("\n") + "\n", ""), "stored", command,
+              found)
+
+
+def board():
+    """The book for the blackboard has what document 01 reckons by hand."""
+    lines = run("sheet", BOARD)[1].splitlines()[1:]
+    check([int(line.split()[3]) for line in lines]
+          == [3, 1, 5, 2, 11, 4, 3, 3, 1], "reckoned by hand", lines)
+
+
+# quay play
+
+def class_list():
+    status, output, told = run("play", CLASS)
+    check((status, told) == (3, ""), "a class's list", told)
+    check(output == stored("examples", "class-answers.txt"),
+          "its stored answers")
+    numbers = set(re.findall("^refused ([0-9]+):", output, re.M))
+    check(numbers == set("2345679"), "its refusals", numbers)
+
+
+def answers(*lines):
+    session = playing.Session(CALCULATED)
+    return [session.answer(playing.request_of(line)) for line in lines]
+
+
+def answered(*lines_and_answer):
+    """The answer of the last line."""
+    *lines, wanted = lines_and_answer
+    found = answers(*lines)[-1]
+    check(found == wanted.split("\n"), "answered", lines[-1], found, wanted)
+
+
+POST = "post category 1 group 1 quantity 1_000 operation 3 provision 2"
+ENROL = "enrol category 1 chain 7 code 1 amount 10 distance 20"
+QUOTE = ("quote adjust chain 7 mass 1_000 distance 5_000 operation 6 "
+         "provision 1")
+
+
+def accepted_calls():
+    answered("open freight", "category 1: freight, open")
+    answered("open kind 2", "category 1: passengers, open")
+    answered("Open Both", "category 1: freight and passengers, open")
+    answered("open 4", "category 1: freight hub, open")
+    answered("open 1", POST, "entry 1: category 1, benefits chilled freight; "
+             "operation 3_000 µg (0.000000003 t), provision 2_000 µg "
+             "(0.000000002 t)")
+    answered("open 1", POST, "strike entry 1", "entry 1: category 1, benefits "
+             "chilled freight, struck and not counted; operation 3_000 µg "
+             "(0.000000003 t), provision 2_000 µg (0.000000002 t)")
+    answered("open 1", ENROL, "element 1: category 1, chain 7, chilled "
+             "freight, 10 kg over 20 m; it waits for category 1 to be closed")
+    answered("open hub", ENROL.replace("20", "0"), "element 1: category 1, "
+             "chain 7, chilled freight, 10 kg in a hub; it waits for category "
+             "1 to be closed")
+    answered("open 2", ENROL.replace("code 1", "code 250"), "element 1: "
+             "category 1, chain 7, passenger class 250, 10 heads over 20 m; "
+             "it waits for category 1 to be closed")
+    answered("name 7 Mills", QUOTE, "element 1: quoted, chain 7 (Mills), "
+             "1_000 kg over 5_000 m; operation 600_000 µg (0.0000006 t), "
+             "provision 100_000 µg (0.0000001 t)\n    its emissions are by "
+             "the distance and 95_000 m for air (adjust)")
+    answered(QUOTE.replace("adjust", ""), "element 1: quoted, chain 7, 1_000 "
+             "kg over 5_000 m; operation 30_000 µg (0.00000003 t), provision "
+             "5_000 µg (0.000000005 t)")
+    answered("open 1", POST, ENROL, "close category 1", "category 1: freight, "
+             "closed\n    element 1: category 1, chain 7, chilled freight, 10 "
+             "kg over 20 m; operation 3_000 µg (0.000000003 t), provision "
+             "2_000 µg (0.000000002 t)\n    all is handed out: operation "
+             "3_000 µg (0.000000003 t), provision 2_000 µg (0.000000002 t)")
+    closed = answers("open 1", *[ENROL] * 13, "close 1")[-1]
+    check(len(closed) == 13 and closed[-2:] == [
+        "    and 3 more: see `show`",
+        "    it has no entry that is not struck: every share is 0"],
+        "a long closing", closed)
+    answered("fresh", "a fresh book")
+    answered("open 1", "name 9 Mills", "fresh", "show", "the book is empty")
+    check(answers("name 9 Mills", "fresh", "statement 9")[-1][0]
+          == "chain 9: no element is on it", "names after fresh")
+    answered("open 1", POST, QUOTE, "show", "\n".join(
+        lines[0] for lines in answers("open 1", POST, QUOTE)))
+
+
+def looking():
+    answered("statement 9", "chain 9: no element is on it\n    operation "
+             "0 µg (0 t)\n    provision 0 µg (0 t)\n    total     0 µg (0 t)")
+    answered("open 1", "open 3", ENROL, ENROL, QUOTE, ENROL.replace(
+        "category 1", "category 2"), "statement chain 7",
+        "chain 7: 4 elements, 3 waiting for category 1 and category 2\n    "
+        "operation 600_000 µg (0.0000006 t)\n    provision 100_000 µg "
+        "(0.0000001 t)\n    total     700_000 µg (0.0000007 t)")
+    answered("open 1", POST, ENROL, "close 1", "intensity category 1 code 1",
+             "category 1, chilled freight, per tonne-km:\n    operation "
+             "15_000 mg CO2e (15 g)\n    provision 10_000 mg CO2e (10 g)")
+    answered("open 4", POST, ENROL.replace("20", "0"), "close 1",
+             "intensity 1 chilled", "category 1, chilled freight, per tonne:\n"
+             "    operation 300 mg CO2e (0.3 g)\n    provision 200 mg CO2e "
+             "(0.2 g)")
+    answered("open 2", ENROL.replace("code 1", "code 100"),
+             POST.replace("group 1", "group all"), "close 1",
+             "intensity 1 lowest", "category 1, passengers, per passenger-km "
+             "of the lowest class:\n    operation 15 mg CO2e (0.015 g)\n"
+             "    provision 10 mg CO2e (0.01 g)")
+
+
+def whole_sheets():
+    table = DOCUMENT_TABLE.splitlines()
+    check(answers("load " + DOCUMENT, "sheet")[-1] == table, "a sheet")
+    session = playing.Session(CALCULATED)
+    session.answer(playing.request_of("load " + DOCUMENT))
+    for _ in range(2):
+        check(session.answer(playing.request_of("sheet")) == table, "again")
+    check(len(session.ledger.answers) == 2, "its statements are not kept")
+    answered("sheet", "chain  elements  waiting  operation t  provision t  "
+             "total t\nno element is in this book, so the sheet has no lines")
+    lines = answers("open 1", "open 4", POST.replace("category 1",
+                                                     "category 2"),
+                    ENROL, "sheet")[-1]
+    check(lines[2:] == [
+        "category 1 is not closed, so these wait for it and have no emissions "
+        "of it yet:", "    chain 7: 1 of its 1 element",
+        "    when all its entries are posted, `close 1`",
+        "category 2 is not closed and has no elements: 1 entry of it is in "
+        "nobody's line"], "who waits", lines)
+    lines = answers("open 4", POST, "strike 1", "sheet")[-1]
+    check(len(lines) == 2, "a struck entry", lines)
+
+
+def saves():
+    with tempfile.TemporaryDirectory() as folder:
+        path = os.path.join(folder, "a b.txt")
+        session = playing.Session(CALCULATED)
+        for line, told in (
+            (" open 1 # freight", None), ("name 7 Mills", None),
+            ("close 1", None), ("show", None), ("statement 7", None),
+            ("save '%s' # here" % path,
+             "saved 3 lines: `quay play` plays it again, from this folder"),
+            ("save " + path, "not saved as %s: File exists" % path),
+            ("save %s/none/x" % folder, "not saved as %s/none/x: No such file "
+             "or directory" % folder),
+            ("save a\0b", "not saved as a?b: no name of a file"),
+        ):
+            found = session.answer(playing.request_of(line))
+            check(told is None or found == [told], "saved", line, found)
+        with open(path, encoding="utf-8") as file:
+            check(file.read() == "open 1 # freight\nname 7 Mills\n"
+                  "statement 7\n", "what is saved")
+        check(run("play", path)[0] == 0, "it is played")
+        again = ("save " + path).encode()
+        check(run("play", text=again)[0] == 2, "not saved again")
+        # A load that stops has changed the book, so it is saved.
+        book_path = os.path.join(folder, "refused.txt")
+        with open(book_path, "w", encoding="utf-8") as file:
+            file.write(REFUSED_TEXT)
+        session = playing.Session(CALCULATED)
+        for line in ("open hub", "load " + book_path, "close 1",
+                     "save %s2" % path):
+            session.answer(playing.request_of(line))
+        with open(path + "2", encoding="utf-8") as file:
+            check(file.read() == "open hub\nload %s\nclose 1\n" % book_path,
+                  "a load that stops")
+
+
+def loads():
+    answered("name 4 Old", "load " + DOCUMENT, "loaded %s: 1 category (1 "
+             "closed), 1 entry and 3 elements" % DOCUMENT)
+    check(answers("name 9 Old", "load " + DOCUMENT, "statement 4")[-1][0]
+          == "chain 4 (Coastal Dairies): 1 element, none waiting", "a name")
+    check(answers("name 9 Old", "load " + DOCUMENT, "statement 9")[-1][0]
+          == "chain 9: no element is on it", "names are of a book")
+    # Where the command is run, and beside the list.
+    with tempfile.TemporaryDirectory() as folder:
+        for name, text in (("document.txt", "category kind 4"),
+                           ("a#b  c.txt", "category kind 3")):
+            with open(os.path.join(folder, name), "w") as file:
+                file.write(text)
+        for line in ("load a#b  c.txt", "load  'a#b  c.txt' # both",
+                     "LOAD \"a#b  c.txt\""):
+            path, text = playing.request_of(line, folder).given
+            check(text.tables[0] == [(3, 0)], "a path", line, path)
+        before = os.getcwd()
+        for here, kind in ((EXAMPLES, (1, 1)), (ROOT, (4, 0))):
+            os.chdir(here)
+            _, text = playing.request_of("load document.txt", folder).given
+            check(text.tables[0] == [kind], "which book", here)
+        os.chdir(before)
+        with open(os.path.join(folder, "list.txt"), "w") as file:
+            file.write("load a#b  c.txt\nshow")
+        check(run("play", os.path.join(folder, "list.txt"))[1].endswith(
+            "\ncategory 1: freight and passengers, open\n"), "beside a list")
+    check(answers("load " + VOYAGE, "show")[0] == ["loaded %s: 6 categories (5 "
+          "closed), 18 entries and 39 elements" % VOYAGE], "a voyage",
+          answers("load " + VOYAGE)[0])
+    noted = playing.Request("load", ("n.txt", pack.Text(
+        "category kind 1 # a\rcategory kind 2\n")), "")
+    check(playing.Session(CALCULATED).answer(noted) == [
+        "note: line 1 has a carriage return inside, which is no line end in "
+        "this text", "loaded n.txt: 1 category (0 closed), 0 entries and 0 "
+        "elements"], "a note")
+    text = pack.Text(REFUSED_TEXT)
+    session = playing.Session(CALCULATED)
+    lines = session.answer(playing.Request("load", ("b.txt", text), ""))
+    check(lines[0] == "stopped at b.txt, line 20: element 2: passengers in a "
+          "freight category (refused 6)" and lines[-1] == "    a load begins a "
+          "book anew, and this one has the records before that: 1 category (0 "
+          "closed), 1 entry and 1 element"
+          and session.refused == 1, "a stopped load", lines)
+
+
+def bad_line(line, what, *expected):
+    try:
+        playing.request_of(line)
+    except Wrong as wrong:
+        check(what in wrong.args[0], "what is wrong", line, wrong.args)
+        for words in expected:
+            check(words in wrong.args[1], "what was expected", line, wrong)
+    else:
+        check(False, "a bad line", line)
+
+
+def bad_lines():
+    bad_line("zzz", "no call is `zzz`", "begins with open, post, strike")
+    bad_line("enroll category 1", "did you mean `enrol`?")
+    for record, call in (("category", "open freight"),
+                         ("entry", "post category 1 group all"),
+                         ("element", "enrol category 1 chain 7")):
+        bad_line(record + " kind 1", "`%s` is a record of a book's text"
+                 % record, "the call is `%s" % call)
+    bad_line("open", "missing: kind", "expected open with kind; a call is "
+             "`open freight`")
+    bad_line("open ferry", "`ferry` after `kind` is not a whole number, nor "
+             "one of its words", "freight (1), passengers (2), both (3) or "
+             "hub (4); a call is `open freight`")
+    bad_line("open 1 2", "`2` has no word before it")
+    bad_line("open 1.5", "there are no decimals")
+    bad_line("strike", "missing: entry")
+    bad_line("strike two", "`two` after `entry` is not a whole number",
+             "a call is `strike 2`")
+    bad_line("statement Mills", "`Mills` after `chain` is not a whole number",
+             "`chain` is a number from 1 to 10,000", "a call is `statement 7`")
+    bad_line("intensity 1 ferry", "`ferry` after `code`", "ambient (0)")
+    bad_line("close 1 category 1", "`category` stands twice")
+    bad_line("post 1 all 5 5 5", "`1` has no word before it",
+             "post with category, group, quantity")
+    bad_line("post category 1", "missing: group, quantity, operation and")
+    bad_line("quote chain 7 mass 5 kg", "a number stands without its unit; "
+             "`mass` is in kg")
+    bad_line("statement 18446744073709551616", "does not fit 64 bits")
+    bad_line("intensity 1", "missing: code")
+    bad_line("fresh 1", "`1` has no word before it", "expected fresh")
+    bad_line("show all", "`all` stands behind `show`", "`show` alone")
+    bad_line("sheet 1", "`1` stands behind `sheet`", "`sheet` alone")
+    bad_line("explain 7", "no call is `explain`", "`tools/quay explain "
+             "BOOK.txt CHAIN`")
+    bad_line("reopen 1", "no call is `reopen`", "a closed category stays "
+             "closed")
+    bad_line("undo", "no call is `undo`", "`strike` strikes an entry")
+    bad_line("name 7", "a chain's number or its name is missing")
+    bad_line("help me", "no help for `me`", "one of open, post")
+    bad_line("help post open", "no help for `post open`")
+
+
+def bad_files():
+    """Lines with a file that cannot be taken."""
+    bad_line("load", "no file after `load`", "`load examples/voyage.txt`")
+    bad_line("load # none", "no file after `load`")
+    bad_line("save", "no file after `save`", "`save class.txt`")
+    bad_line("load a\0b", "a?b is no name of a file")
+    bad_line("load none.txt", "none.txt cannot be read: No such file")
+    bad_line("load " + CLASS, "class.txt, line 5: no record is called `open`",
+             "has `category` for it; `quay sheet` tells all of its bad lines")
+    with tempfile.NamedTemporaryFile() as file:
+        bad_line("load " + file.name, "%s has no record" % file.name)
+        file.write(b"zzz")
+        file.flush()
+        bad_line("load " + file.name, "%s, line 1: no record is called `zzz`"
+                 % file.name)
+
+
+def helps():
+    words = answers("help")[0]
+    check([line.split()[0] for line in words[:-2]]
+          == [*playing.CALLS, *playing.OTHERS], "every word", words)
+    check(answers("?")[0] == words and answers("Help Post") == answers(
+        "help post"), "other words for it")
+    for word in (*playing.CALLS, *playing.OTHERS):
+        lines = answers("help " + word)[0]
+        check(lines[0].startswith(word + ": "), "help", lines)
+        check(word == "load" or playing.request_of(lines[1]).word == word,
+              "its example", lines)
+    for line in ("quantity is in thousandths of a unit, of a kg for example",
+                 "group is a number or a word: all (0), chilled (1) or frozen "
+                 "(2)"):
+        check("    " + line in answers("help post")[0], "a field", line)
+
+
+def lists():
+    text = b"# a \x1blist\n\n  open 1 # freight\nshow\nquit\nshow\n"
+    check(run("play", text=text) == (0, "# a ?list\n\n> open 1 # freight\n"
+          "category 1: freight, open\n> show\ncategory 1: freight, open\n"
+          "> quit\n", ""), "a list", run("play", text=text))
+    check(run("play", "-", text=b"close 1\n")[0] == 3, "a refused call")
+    check(run("play", text=b"# none\n") == (
+        1, "", "there is no call in this list\nnothing is played\n"), "no call")
+    check(run("play", text=b"# a\ropen 1\nopen 2\n")[2] == "note: line 1 has a "
+          "carriage return inside, which is no line end in this text\n",
+          "mixed line ends")
+    status, output, told = run("play", text=b"open 1\nopne 2\nclose\n")
+    check((status, output) == (1, "") and told == """\
+line 2: no call is `opne`; did you mean `open`?
+    opne 2
+    expected a line that begins with open, post, strike, enrol, quote, \
+close, statement, intensity, fresh, load, show, sheet, name, save, help, quit
+line 3: missing: category
+    close
+    expected close with category; a call is `close 1`
+nothing is played
+""", "bad lines", told)
+
+
+def terminals():
+    """Without a list a terminal is asked; with one it is not."""
+    for words, status, start in (
+        (["play"], 0, main.WELCOME), (["play", CLASS], 3, "# A class's list"),
+    ):
+        output = io.TextIOWrapper(io.BytesIO(), encoding="utf-8")
+        terminal = mock.Mock()
+        terminal.isatty.return_value = True
+        with mock.patch("sys.stdin", terminal), \
+                mock.patch("sys.stdout", output), \
+                mock.patch("builtins.input", side_effect=EOFError):
+            check(main.main(words, CALCULATED) == status, "ends", words)
+        output.flush()
+        check(output.buffer.getvalue().decode().startswith(start), "begins",
+              words)
+
+
+def prompts():
+    """Typed lines: a bad one, a refused one and an interrupted one can be
+    tried again."""
+    for last in ("exit", EOFError):
+        typed = ["opn 1", "", "close 1", KeyboardInterrupt, "open 1", last]
+        output = io.StringIO()
+        with mock.patch("builtins.input", side_effect=typed), \
+                mock.patch("sys.stdout", output):
+            check(main.play_typed(playing.Session(CALCULATED)) == 0, "ends")
+        lines = output.getvalue().splitlines()
+        check(lines[:2] == main.WELCOME.splitlines()
+              and lines[2] == "no call is `opn`; did you mean `open`?"
+              and lines[4].startswith("refused 2: ")
+              and lines[6:8] == ["", "category 1: freight, open"], "typed",
+              lines)
+
+
+# Programs that are not there, or that say something else.
+
+def unavailable():
+    def missing(data):
+        raise Unavailable("not built")
+    none = Programs(missing, missing)
+    for words in (("sheet", DOCUMENT), ("play", CLASS),
+                  ("explain", DOCUMENT, "7")):
+        check(run(*words, programs=none) == (2, "", "not built\n"),
+              "not built", words)
+    # Programs that end well, badly, or are none.
+    with tempfile.TemporaryDirectory() as folder, \
+            mock.patch("command.programs.ROOT", folder):
+        path = os.path.join(folder, "target", "bin", "quaymeter")
+        os.makedirs(os.path.dirname(path))
+        for program, name in zip(programs.PROVED, programs.Programs._fields):
+            other = os.path.join(os.path.dirname(path), name)
+            with open(other, "w") as file:
+                file.write("#!/bin/sh\nprintf %s\ncat\n" % name)
+            os.chmod(other, 0o755)
+            check(program(b" in") == name.encode() + b" in", "a program", name)
+        for text, told in (
+            ("#!/bin/sh\nexit 3\n", "did not end well (status 3)"),
+            ("#!/bin/sh\necho no >&2\n", "did not end well (status 0): no"),
+            ("#!/none\n", "does not run"),
+        ):
+            with open(path, "w") as file:
+                file.write(text)
+            os.chmod(path, 0o755)
+            found = run("sheet", DOCUMENT, programs=programs.PROVED)
+            check(found[:2] == (2, "") and told in found[2], "ends badly",
+                  found)
+    with mock.patch("command.programs.ROOT", os.path.join(ROOT, "tools")):
+        status, output, told = run("sheet", DOCUMENT,
+                                   programs=programs.PROVED)
+        check((status, output, told) == (
+            2, "", "target/bin/quaymeter is not built yet: `rt check` in %s "
+            "proves and builds everything, which takes about five minutes\n"
+            % os.path.join(ROOT, "tools")), "not built", told)
+
+
+def with_sheet(change):
+    """The programs with another `quaymeter`."""
+    return Programs(lambda data: change(CALCULATED.quaymeter(data)),
+                    CALCULATED.replay)
+
+
+def differences():
+    """Each difference is told loudly, and no number is shown."""
+    row = b"7 3 2 2 233333333 233333335"
+    for old, new, what in (
+        (b"chain elements", b"chains elements", "quaymeter says `chains"),
+        (row, b"7 3 1 2 233333333 233333335", "chain 7: the program says 3 1 2 "
+         "233333333 233333335, and its element records add up to 3 2 2 "),
+        (row, b"7 4 2 2 233333333 233333335", "chain 7: the program says 4 2"),
+        (row, b"7 3 2 3 233333333 233333335", "the program says 3 2 3"),
+        (row, b"7 3 2 2 233333333 233333336", "the program says 3 2 2"),
+        (row, b"7 3 2 2 233333333", "the program says 3 2 2 233333333, and"),
+        (row, b"7 3 2 2 x", "a program prints `7 3 2 2 x`"),
+        (row + b"\n", b"", "lines for the chains 12 9999, and the book for 7"),
+        (row, b"", "lines for the chains 0 12 9999, and the book for 7 12"),
+        (DOCUMENT_SHEET.encode()[:5], b"refused 3 1 1\nchain",
+         "quaymeter says `refused 3 1 1`, and replay `0 0 0`"),
+        (b"chain elements", b"refused x y", "a program prints `x y"),
+    ):
+        wrong = with_sheet(lambda output: output.replace(old, new))
+        check(run("sheet", "-", text=NAMED, programs=with_sheet(
+            lambda output: output))[0] == 0, "the same")
+        status, output, told = run("sheet", "-", text=NAMED, programs=wrong)
+        check((status, output) == (4, "") and what in told and told.startswith(
+            "!" * 70 + "\nTHE PROVED PROGRAM AND WHAT IS RECKONED HERE DIFFER:"
+            "\n") and told.endswith("\nTrust neither before this is cleared "
+                                    "up.\n" + "!" * 70 + "\n"), "loudly",
+            told)
+    for wrong, text, what in (
+        (lambda output: b"", NAMED, "quaymeter says ``, and replay `0 0 0`"),
+        (lambda output: DOCUMENT_SHEET.encode(), b"category kind 9",
+         "and replay `3 1 1`"),
+    ):
+        status, output, told = run("sheet", "-", text=text,
+                                   programs=with_sheet(wrong))
+        check((status, output) == (4, "") and what in told, "loudly", told)
+
+
+def differences_of_answers():
+    """Programs that answer a call otherwise, from the fourth record on."""
+    lines = ("open 1", ENROL, "statement 7", "close 1")
+    for old, new, what in (
+        (b"\n0 1 1 0 0 0\n", b"\n0 1 0 0 0 0\n", "chain 7: the program says 1 "
+         "0 0 0 0, and its element records add up to 1 1 0 0 0"),
+        (b"\n0 1\n", b"\n0 2\n", "replay answers the same calls in another"),
+        (b"\n0 1 1 0 0 0\n", b"\n", "replay answers the same calls in another"),
+        (b"\n0 1 1 0 0 0\n", b"\n0 1 1 0 0 x\n", "a program prints `0 1 1 0 0 "
+                                                  "x`"),
+        (b"14083 1 0 1 ", b"14083 1 0 ", "replay shows 2403 words"),
+    ):
+        replay = calculated().replay
+        session = playing.Session(Programs(
+            None, lambda data: replay(data).replace(old, new)
+            if len(data) > 4 * 64 else replay(data)))
+        tells_difference(check, what, lambda: [
+            session.answer(playing.request_of(line)) for line in lines])
+    tells_difference(check, "in another way, with ``", playing.Session,
+                     Programs(None, lambda data: b""))
+    # Shares that do not add up to the entries.
+    session = playing.Session(CALCULATED)
+    for line in ("open 1", POST, ENROL, "close 1"):
+        session.answer(playing.request_of(line))
+    words = list(session.ledger.words)
+    for amount in ("operation", "provision"):
+        words[book.word(book.ELEMENTS, 1, amount)] += 1
+        tells_difference(check, "the shares of %s add up to" % amount,
+                         playing.handed_out, book.Book(words), 1)
+        words[book.word(book.ELEMENTS, 1, amount)] -= 1
+
+
+# Outputs that cannot be written.
+
+class Failing(io.RawIOBase):
+    """A stream that cannot be written to."""
+
+    def __init__(self, error):
+        self.error = error
+
+    def writable(self):
+        return True
+
+    def write(self, data):
+        raise self.error
+
+
+def outputs():
+    refused = ["play", CLASS]
+    for error, words, status, told in (
+        (BrokenPipeError(), ["sheet", DOCUMENT], 0, ""),
+        (BrokenPipeError(), ["sheet", "--csv", DOCUMENT], 0, ""),
+        (BrokenPipeError(), ["explain", DOCUMENT, "7"], 0, ""),
+        (BrokenPipeError(), refused, 3, ""),
+        (OSError(28, "No space left on device"), ["sheet", DOCUMENT], 2,
+         "the output cannot be written: No space left on device\n"),
+    ):
+        messages = io.TextIOWrapper(io.BytesIO(), encoding="utf-8")
+        raw = Failing(error)
+        failing = io.TextIOWrapper(io.BufferedWriter(raw))
+
+        def write_no_more(stream):
+            raw.write = len
+        with mock.patch("sys.stdout", failing), \
+                mock.patch("sys.stderr", messages), \
+                mock.patch("command.main.write_no_more", write_no_more):
+            found = main.main(words, CALCULATED)
+        messages.flush()
+        check((found, messages.buffer.getvalue().decode()) == (status, told),
+              "an output that fails", error, words, found)
+    with tempfile.TemporaryFile("w+") as file:
+        main.write_no_more(file)
+        main.say("nothing", stream=file)
+        check(os.fstat(file.fileno()).st_rdev == os.stat(os.devnull).st_rdev,
+              "no more is written")
+    for stream in ("sys.stdout", "sys.stderr"):
+        with mock.patch(stream, None):
+            check(main.main(["sheet", DOCUMENT], CALCULATED) == 2, "closed",
+                  stream)
+    with mock.patch("sys.stdin", None):
+        check(pack.read(None) == "", "no standard input")
+    with mock.patch("command.sheets.Sheet", side_effect=KeyboardInterrupt):
+        check(run("sheet", DOCUMENT)[:2] == (2, ""), "interrupted")
+
+
+# Help and documents.
+
+def help_texts():
+    status, output, told = run("--help")
+    check((status, told) == (0, "") and "quay play" in output
+          and "10^12 µg are 1 t" in output, "help")
+    for command in ("sheet", "play", "explain"):
+        status, output, told = run(command, "--help")
+        check((status, told) == (0, "") and "Exit status: 0 done" in output,
+              "help", command)
+    check(run()[0] == 2 and "quay sheet" in run()[1], "no command")
+    check(run("help") == run("--help"), "help as a word")
+    check(run("shet", DOCUMENT)[0] == 2, "no such command")
+
+
+def documents():
+    """README has every refusal with its meaning; it and docs/BOOKS.md show
+    what is printed."""
+    table = dict(re.findall(r"^\| ([0-9]+) \| ([^|]*[^| ]) +\|", stored(
+        "README.md"), re.M))
+    check({int(number): meaning for number, meaning in table.items()}
+          == refusals.MEANINGS, "README's refusals", table)
+    for lines, number in ((("load " + DOCUMENT, "close 1"), 4),
+                          (("open freight", "intensity 1 ambient"), 5)):
+        check(answers(*lines)[-1][0].startswith("refused %d: " % number),
+              "README's calls", lines)
+    text = stored("examples", "document.txt").replace("chain 4 c", "chian 4 c")
+    for page, output in (
+        ("README.md", DOCUMENT_TABLE), ("README.md", REFUSED_TOLD),
+        (os.path.join("docs", "BOOKS.md"),
+         run("sheet", "-", text=text.encode())[2]),
+    ):
+        check("".join("    %s\n" % line for line in output.splitlines())
+              in stored(page), "a page shows", page, output)
+
+
+shown_amounts()
+plain_sheets()
+tables()
+long_numbers()
+spreadsheets()
+bad_texts()
+steering_signs()
+refused_texts()
+explanations()
+stored_explanations()
+board()
+class_list()
+accepted_calls()
+looking()
+whole_sheets()
+saves()
+loads()
+bad_lines()
+bad_files()
+helps()
+lists()
+terminals()
+prompts()
+unavailable()
+differences()
+differences_of_answers()
+outputs()
+help_texts()
+documents()
+refusal_checks.run(check)
+explain_checks.run(check)
+check.end()

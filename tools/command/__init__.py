@@ -1,0 +1,1 @@
+"""What the command `quay` is made of."""

@@ -1,0 +1,312 @@
+"""The command `quay`."""
+
+import argparse
+import os
+import sys
+
+import pack
+from command import explaining, playing, sheets
+from command.fields import CHAIN, NUMBER, Wrong, listed, number_of, shown
+from command.programs import PROVED, Differs, Unavailable
+from command.texts import Unreadable, carriage_returns, lines_of, read
+
+MOST_NAMES = 20  # that are told where a chain's name is none of them
+
+# Exit statuses.
+DONE, BAD_TEXT, CANNOT, REFUSED, DIFFERENT = range(5)
+
+ABOUT = """\
+The door to Quaymeter, a proved ledger of transport emissions: every number
+that is shown comes from its proved programs.
+
+    quay sheet examples/document.txt             the sheet, in µg CO2e
+    quay sheet --tonnes examples/voyage.txt      a table in tonnes
+    quay sheet --csv --tonnes examples/voyage.txt > sheet.csv
+    quay explain examples/document.txt 7         how chain 7's shares came about
+    quay play                                    calls, typed one after another
+    quay play examples/class.txt                 a list of calls with its answers
+
+`quay sheet --help`, `quay play --help` and `quay explain --help` say more.
+A book's text is told in docs/BOOKS.md. 10^12 µg are 1 t.
+"""
+
+STATUSES = """\
+Exit status: 0 done; 1 the text is bad; 2 it cannot be done: the command is not
+understood, the programs are not built, no such chain, the output cannot be
+written; 3 the ledger refuses (what is typed at the prompt ends with 0);
+4 a program and what is reckoned here differ.
+"""
+
+SHEET = """\
+Packs a book's text, runs `quaymeter` and prints its sheet as it is: a line for
+each chain with its elements, how many of them wait in categories that are not
+closed, and its operation, provision and total emissions in µg CO2e.
+
+A bad line, or the record that the ledger refuses, is told with its line and
+what to look at, and no sheet is printed. `name 7 Harbour Mills` in the text
+names chain 7 in the table and for the spreadsheet. What is told beside a sheet
+(who waits, and for what) goes to standard error, but under a table.
+"""
+
+PLAY = """\
+Plays calls in words, one a line, from a list or typed at a prompt. Each is
+answered in words; a refused call changes nothing and can be tried again. Only
+`fresh` and `load` begin a book anew, a `load` also where it stops at a record.
+
+    open freight
+    post category 1 group all quantity 12_000_000 operation 3_220_000 provision 560_000
+    enrol category 1 chain 7 code ambient amount 1_000 distance 300_000
+    quote chain 7 mass 1_000 distance 500_000 operation 62_000 provision 10_000
+    strike 1
+    close 1
+    statement 7
+    intensity 1 ambient
+    name 7 Harbour Mills
+    fresh
+    load examples/voyage.txt
+    show
+    sheet
+    save class.txt
+
+`help` at the prompt tells each word, `help post` how a post is written. In a
+list `#` begins a comment; a list with a bad line is not played, and one in
+which a call is refused ends with status 3. A book is looked for where you are,
+and beside the list.
+"""
+
+EXPLAIN = """\
+Shows how a chain's shares came about, element by element: what is divided, by
+what, the exact share, floor and remainder, which remainders the µg left over
+go to, and the sum, for operation and for provision; and how a quote was
+rounded. Each result is compared with that of the proved program.
+"""
+
+WELCOME = """\
+A fresh book. Type a call, such as `open freight`; `help` tells the words,
+`quit` ends."""
+
+
+def parser():
+    form = argparse.RawDescriptionHelpFormatter
+    main = argparse.ArgumentParser("quay", description=ABOUT,
+                                   epilog=STATUSES, formatter_class=form)
+    commands = main.add_subparsers(dest="command", metavar="COMMAND")
+
+    def command(name, about, short):
+        return commands.add_parser(name, help=short, description=about,
+                                   epilog=STATUSES, formatter_class=form)
+
+    sheet = command("sheet", SHEET, "the sheet of a book")
+    sheet.add_argument("book", metavar="BOOK.txt",
+                       help="a book's text; - for standard input")
+    sheet.add_argument("--tonnes", action="store_true",
+                       help="a table in tonnes, exact, with chains' names")
+    sheet.add_argument("--csv", action="store_true",
+                       help="comma-separated, for a spreadsheet")
+    play = command("play", PLAY, "calls and their answers")
+    play.add_argument("calls", metavar="CALLS.txt", nargs="?",
+                      help="a list of calls; without it they are typed")
+    explain = command("explain", EXPLAIN, "how a chain's shares came about")
+    explain.add_argument("book", metavar="BOOK.txt",
+                         help="a book's text; - for standard input")
+    explain.add_argument("chain", metavar="CHAIN",
+                         help="a chain's number, or its name in the text")
+    return main
+
+
+def say(*lines, stream=None):
+    """Lines of the output. Where nobody reads on, the rest goes nowhere."""
+    stream = stream or sys.stdout
+    try:
+        for line in lines:
+            print(line, file=stream)
+        stream.flush()
+    except BrokenPipeError:
+        write_no_more(stream)
+
+
+def tell(*lines):
+    """Lines of messages."""
+    say(*lines, stream=sys.stderr)
+
+
+def write_no_more(stream):
+    """What is left in a stream's buffer, and what comes, goes nowhere."""
+    os.dup2(os.open(os.devnull, os.O_WRONLY), stream.fileno())
+
+
+# The three commands. Each returns the exit status.
+
+def book_text(path, ending):
+    """The text of a book without bad lines, None where it has some or no
+    record; the ending is told then."""
+    text = pack.Text(read(None if path == "-" else path))
+    if not text.is_text():
+        tell(pack.NO_TEXT % shown(path), ending)
+        return None
+    for note in text.notes:
+        tell("note: " + note)
+    if text.problems:
+        tell(*pack.report(text.problems, "", ending))
+        return None
+    if text.is_empty():
+        tell(ending)
+        return None
+    return text
+
+
+def sheet(arguments, programs):
+    text = book_text(arguments.book, "no sheet is printed")
+    if text is None:
+        return BAD_TEXT
+    made = sheets.Sheet(programs, text)
+    remarks = list(sheets.remarks_of_text(made))
+    if arguments.csv:
+        # In UTF-8, with a byte order mark where it is more than ASCII.
+        lines = sheets.comma_separated(made, arguments.tonnes)
+        is_ascii = all(map(str.isascii, lines))
+        sys.stdout.reconfigure(encoding="ascii" if is_ascii else "utf-8-sig")
+        say(*lines)
+        tell(*sheets.long_numbers(made))
+    elif arguments.tonnes:
+        say(*sheets.table(made.rows, text.names), *remarks)
+        remarks = []
+    else:
+        say(*made.printed.splitlines())
+    tell(*remarks, *sheets.unused_names(made))
+    return DONE
+
+
+def explain(arguments, programs):
+    text = book_text(arguments.book, "nothing is explained")
+    if text is None:
+        return BAD_TEXT
+    ledger = sheets.Sheet(programs, text).ledger
+    try:
+        chain = chain_of(text, arguments.chain)
+        lines = explaining.explanation(text, ledger, chain)
+    except explaining.NoChain as none:
+        tell(none)
+        return CANNOT
+    say(*lines)
+    return DONE
+
+
+def chain_of(text, word):
+    """The number of a chain, which may be given by its name."""
+    if NUMBER.fullmatch(word):
+        try:
+            return number_of(word, CHAIN)
+        except Wrong as wrong:
+            raise explaining.NoChain(wrong.args[0])
+    chains = [chain for chain, name in sorted(text.names.items())
+              if name.lower() == " ".join(word.split()).lower()]
+    if len(chains) == 1:
+        return chains[0]
+    if chains:
+        raise explaining.NoChain("`%s` is the name of the chains %s: give a "
+                                 "number" % (shown(word),
+                                             listed(list(map(str, chains)))))
+    names = [name for _, name in sorted(text.names.items())]
+    if len(names) > MOST_NAMES:
+        names[MOST_NAMES:] = ["..."]
+    raise explaining.NoChain("no chain of this book has the name `%s`%s" % (
+        shown(word), "; it has %s" % ", ".join(names) if names else ""))
+
+
+def play(arguments, programs):
+    if arguments.calls is None and sys.stdin and sys.stdin.isatty():
+        return play_typed(playing.Session(programs))
+    path = None if arguments.calls in (None, "-") else arguments.calls
+    lines = lines_of(read(path))
+    requests, problems = playing.requests_of(
+        lines, os.path.dirname(path) if path else "")
+    tell(*["note: " + note for note in carriage_returns(lines)])
+    if problems:
+        tell(*pack.report(problems, "", "nothing is played"))
+        return BAD_TEXT
+    if not any(requests):
+        tell("there is no call in this list", "nothing is played")
+        return BAD_TEXT
+    session = playing.Session(programs)
+    for line in playing.transcript(session, lines, requests):
+        say(line)
+    return (CANNOT if session.unsaved else REFUSED if session.refused
+            else DONE)
+
+
+def play_typed(session):
+    """Calls at a prompt, to the end of the input or `quit`."""
+    try:
+        import readline  # the prompt then remembers lines
+    except ImportError:
+        pass
+    say(WELCOME)
+    while True:
+        try:
+            request = playing.request_of(input("> "))
+        except Wrong as wrong:
+            say(wrong.args[0], "    " + wrong.args[1])
+            continue
+        except KeyboardInterrupt:
+            say("")
+            continue
+        except EOFError:
+            say("")
+            return DONE
+        if request is None:
+            continue
+        if request.word == "quit":
+            return DONE
+        say(*session.answer(request))
+
+
+COMMANDS = {"sheet": sheet, "play": play, "explain": explain}
+
+
+def run(words, programs):
+    """The exit status of a command; OSError where its output cannot be
+    written."""
+    arguments = parser().parse_args(["--help"] if words == ["help"] else words)
+    if arguments.command is None:
+        parser().print_help()
+        return CANNOT
+    try:
+        return COMMANDS[arguments.command](arguments, programs)
+    except sheets.RefusedFile as refused:
+        tell(*refused.args[0], {"sheet": "no sheet is printed"}.get(
+            arguments.command, "nothing is explained"))
+        return REFUSED
+    except Unreadable as error:
+        tell(error)
+        return BAD_TEXT
+    except Unavailable as error:
+        tell(error)
+        return CANNOT
+    except Differs as error:
+        tell("!" * 70, "THE PROVED PROGRAM AND WHAT IS RECKONED HERE DIFFER:",
+             error, "Trust neither before this is cleared up.", "!" * 70)
+        return DIFFERENT
+
+
+def main(words, programs=PROVED):
+    if sys.stdout is None or sys.stderr is None:
+        return CANNOT  # there is nobody to tell
+    for stream in (sys.stdout, sys.stderr):
+        stream.reconfigure(errors="replace")
+    try:
+        try:
+            status = run(words, programs)
+        except SystemExit as end:
+            status = end.code
+        sys.stdout.flush()
+        return status
+    except KeyboardInterrupt:
+        return CANNOT
+    except OSError as error:
+        write_no_more(sys.stdout)
+        try:
+            tell("the output cannot be written: %s" % error.strerror)
+        except OSError:
+            write_no_more(sys.stderr)
+        return CANNOT

@@ -1,0 +1,422 @@
+"""`quay play`: calls in words, each with its answer in words."""
+
+import os
+from collections import namedtuple
+
+import pack
+from calculation import book
+from calculation.sheet import used_chains
+from command.amounts import counted, emissions, grouped, moved
+from command.calls import CALLS, OTHERS, call_of, no_such_word
+from command.fields import (
+    VALUES, Wrong, expected_fields, listed, numbered, shown)
+from command.ledger import Ledger, call_record, compare_statement, load_of
+from command.naming import (
+    carried, code_words, group_words, kind_words, plainly_called, with_name)
+from command.programs import Differs
+from command.refusals import of_call
+from command.sheets import Row, refusal, remarks, table
+from command.texts import Unreadable, read, without_comment, without_remark
+
+MOST_SHOWN = 10  # elements of a closing
+
+# What a line asks for: its word, what the word needs, and the line.
+Request = namedtuple("Request", "word given line")
+
+# Other words for a word.
+SAME = {"exit": "quit", "?": "help"}
+
+
+# From a line to a request.
+
+def request_of(line, folder=""):
+    """The request of a line, None for a line without one. Books are looked
+    for where the command is run, and in the folder of the list."""
+    words = without_comment(line).split()
+    if not words:
+        return None
+    word, *words = words
+    word = SAME.get(word.lower(), word.lower())
+    if word in CALLS:
+        given = call_of(word, words)
+    elif word == "load":
+        given = book_at(path_in(line, word), folder)
+    elif word == "save":
+        given = path_in(line, word)
+    elif word == "name":
+        given = pack.name_of(line)
+    elif word == "help":
+        given = help_topic(" ".join(words).lower())
+    elif word not in OTHERS:
+        raise no_such_word(word)
+    elif words:
+        raise Wrong("`%s` stands behind `%s`" % (shown(" ".join(words)), word),
+                    "expected `%s` alone" % word)
+    else:
+        given = None
+    return Request(word, given, line.strip())
+
+
+def path_in(line, word):
+    """The path behind a word."""
+    path = without_remark(line).strip()[len(word):].strip().strip("\"'")
+    if not path:
+        raise Wrong("no file after `%s`" % word,
+                    "expected the path of a file, as in `%s`" % OTHERS[word])
+    return os.path.expanduser(path)
+
+
+def book_at(path, folder):
+    """The path of a book and its text."""
+    beside = os.path.join(folder, path)
+    try:
+        text = pack.Text(read(path if os.path.exists(path) else beside))
+    except Unreadable as error:
+        raise Wrong(str(error), "expected the path of a book's text")
+    if text.problems:
+        number, _, what, expected = text.problems[0]
+        raise Wrong("%s, line %d: %s" % (shown(path), number, what),
+                    "%s; `quay sheet` tells all of its bad lines" % expected)
+    if text.is_empty():
+        raise Wrong("%s has no record" % shown(path),
+                    "expected the path of a book's text")
+    return shown(path), text
+
+
+def help_topic(word):
+    if word and word not in (*CALLS, *OTHERS):
+        raise Wrong("no help for `%s`" % shown(word),
+                    "expected help, or help and one of %s"
+                    % ", ".join((*CALLS, *OTHERS)))
+    return word
+
+
+# Answers.
+
+class Session:
+    """A list of calls so far, and the chains' names."""
+
+    def __init__(self, programs):
+        self.ledger = Ledger(programs)
+        self.names = {}
+        self.refused = 0
+        self.unsaved = False
+        self.lines = []  # of what changed something, or asked the ledger
+
+    def answer(self, request):
+        """The lines that answer a request."""
+        before = self.refused
+        if request.word in CALLS:
+            lines = list(self.answer_call(request.word, request.given))
+            is_kept = self.refused == before
+        else:
+            lines = list(OTHER_ANSWERS[request.word](self, request.given))
+            is_kept = request.word in ("load", "name")
+        if is_kept:
+            self.lines.append(request.line)
+        return lines
+
+    def answer_call(self, name, arguments):
+        refused, *numbers = self.ledger.call(
+            call_record(CALLS[name].operation, arguments))
+        if refused:
+            self.refused += 1
+            yield from of_call(refused, self.ledger.words, name, arguments)
+        else:
+            yield from ANSWERS[name](self, arguments, numbers)
+
+
+# Answers to calls that are accepted.
+
+def told_category(session, arguments, numbers):
+    number, = numbers
+    yield category_line(session.ledger.book, number)
+
+
+def told_entry(session, arguments, numbers):
+    number, = numbers
+    yield entry_line(session.ledger.book, number)
+
+
+def told_element(session, arguments, numbers):
+    number, = numbers
+    yield element_line(session.ledger.book, session.names, number)
+
+
+def told_quote(session, arguments, numbers):
+    yield from told_element(session, arguments, numbers)
+    _, adjust, *_ = arguments
+    if adjust:
+        yield ("    its emissions are by the distance and %s m for air (adjust)"
+               % grouped(book.AIR_DEFAULT))
+
+
+def told_strike(session, arguments, numbers):
+    yield entry_line(session.ledger.book, arguments[0])
+
+
+def told_close(session, arguments, numbers):
+    category, = arguments
+    held = session.ledger.book
+    yield category_line(held, category)
+    members = [number for number, element in enumerate(held.elements, 1)
+               if element.category == category]
+    for number in members[:MOST_SHOWN]:
+        yield "    " + element_line(held, session.names, number)
+    if len(members) > MOST_SHOWN:
+        yield "    and %d more: see `show`" % (len(members) - MOST_SHOWN)
+    yield handed_out(held, category)
+
+
+def handed_out(held, category):
+    """The shares of a closed category add up to its unstruck entries."""
+    entries = book.unstruck(held.entries_of(category))
+    elements = held.elements_of(category)
+    for amount in book.AMOUNTS:
+        shares, posted = (book.total(records, amount)
+                          for records in (elements, entries))
+        if shares != posted:
+            raise Differs("category %d: the shares of %s add up to %d, and its "
+                          "unstruck entries to %d" % (category, amount, shares,
+                                                      posted))
+    if not entries:
+        return "    it has no entry that is not struck: every share is 0"
+    return "    all is handed out: operation %s, provision %s" % tuple(
+        emissions(book.total(elements, amount)) for amount in book.AMOUNTS)
+
+
+def told_fresh(session, arguments, numbers):
+    session.names = {}
+    yield "a fresh book"
+
+
+def told_statement(session, arguments, numbers):
+    chain, = arguments
+    elements, waiting, *sums = numbers
+    held = session.ledger.book
+    compare_statement(held, chain, numbers)
+    open_ones = sorted({element.category for element in held.elements
+                        if element.chain == chain
+                        and held.is_open(element.category)})
+    yield "chain %s: %s" % (
+        with_name(session.names, chain),
+        "no element is on it" if elements == 0 else "%s, %s" % (
+            counted(elements, "element"), "%d waiting for %s" % (
+                waiting, listed(["category %d" % category
+                                 for category in open_ones]))
+            if waiting else "none waiting"))
+    for word, amount in zip(("operation", "provision", "total"), sums):
+        yield "    %-9s %s" % (word, emissions(amount))
+
+
+def told_intensity(session, arguments, numbers):
+    category, code = arguments
+    hub = session.ledger.book.kind(category) == book.HUB
+    unit = ("passenger-km of the lowest class" if code
+            in book.PASSENGER_CODES else "tonne" if hub else "tonne-km")
+    yield "category %d, %s, per %s:" % (
+        category, "passengers" if code in book.PASSENGER_CODES
+        else code_words(code), unit)
+    for word, amount in zip(book.AMOUNTS, numbers):
+        yield "    %-9s %s mg CO2e (%s g)" % (word, grouped(amount),
+                                              moved(amount, 3))
+
+
+ANSWERS = {
+    "fresh": told_fresh, "open": told_category, "post": told_entry,
+    "strike": told_strike, "enrol": told_element, "quote": told_quote,
+    "close": told_close, "statement": told_statement,
+    "intensity": told_intensity,
+}
+
+
+# Answers to what else is asked.
+
+def told_load(session, given):
+    path, text = given
+    numbers = session.ledger.call(load_of(text.data()))
+    session.names = dict(text.names)
+    for note in text.notes:
+        yield "note: " + note
+    if any(numbers):
+        session.refused += 1
+        first, *others = refusal(numbers, text, session.ledger)
+        yield "stopped at %s, %s" % (path, first)
+        yield from others
+        yield ("    a load begins a book anew, and this one has the records "
+               "before that: " + sizes(session.ledger.book))
+    else:
+        yield "loaded %s: %s" % (path, sizes(session.ledger.book))
+
+
+def sizes(held):
+    closed = sum(category.closed for category in held.categories)
+    return "%s (%d closed), %s and %s" % (
+        counted(len(held.categories), "category", "categories"), closed,
+        counted(len(held.entries), "entry", "entries"),
+        counted(len(held.elements), "element"))
+
+
+def told_show(session, given):
+    return book_lines(session.ledger.book, session.names)
+
+
+def told_sheet(session, given):
+    """The statements of all chains, and who waits for what."""
+    held = session.ledger.book
+    chains = used_chains(session.ledger.words)
+    statements = session.ledger.statements(chains)
+    for chain, statement in zip(chains, statements):
+        compare_statement(held, chain, statement)
+    yield from table([Row(chain, *statement) for chain, statement
+                      in zip(chains, statements)], session.names)
+    yield from remarks(
+        held, session.names, plainly_called,
+        lambda category: "when all its entries are posted, `close %d`"
+        % category)
+
+
+def told_name(session, given):
+    chain, name = given
+    session.names[chain] = name
+    yield "chain " + with_name(session.names, chain)
+
+
+def told_save(session, path):
+    """Writes the accepted lines as a list; no file is written over."""
+    try:
+        with open(path, "x", encoding="utf-8") as file:
+            file.writelines(line + "\n" for line in session.lines)
+        yield ("saved %s: `quay play` plays it again, from this folder"
+               % counted(len(session.lines), "line"))
+    except (OSError, ValueError) as error:
+        session.unsaved = True
+        yield "not saved as %s: %s" % (
+            shown(path), getattr(error, "strerror", "no name of a file"))
+
+
+def told_help(session, word):
+    return help_on(word)
+
+
+OTHER_ANSWERS = {
+    "load": told_load, "show": told_show, "sheet": told_sheet,
+    "name": told_name, "save": told_save, "help": told_help,
+}
+
+
+# The book's records in words.
+
+def book_lines(held, names):
+    if not held.categories and not held.elements:
+        yield "the book is empty"
+    for number in range(1, len(held.categories) + 1):
+        yield category_line(held, number)
+    for number in range(1, len(held.entries) + 1):
+        yield entry_line(held, number)
+    for number in range(1, len(held.elements) + 1):
+        yield element_line(held, names, number)
+
+
+def category_line(held, number):
+    return "category %d: %s, %s" % (
+        number, kind_words(held.kind(number)),
+        "closed" if held.is_closed(number) else "open")
+
+
+def entry_line(held, number):
+    entry = held.entries[number - 1]
+    return "entry %d: category %d, benefits %s%s; %s" % (
+        number, entry.category, group_words(entry.group),
+        ", struck and not counted" if entry.struck else "",
+        both_amounts(entry))
+
+
+def element_line(held, names, number):
+    element = held.elements[number - 1]
+    quoted = element.category == book.QUOTED
+    return "element %d: %s, chain %s, %s; %s" % (
+        number, "quoted" if quoted else "category %d" % element.category,
+        with_name(names, element.chain), carried(held, element),
+        "it waits for category %d to be closed" % element.category
+        if held.is_open(element.category) else both_amounts(element))
+
+
+def both_amounts(record):
+    return "operation %s, provision %s" % (emissions(record.operation),
+                                           emissions(record.provision))
+
+
+# Help.
+
+WHAT_FOR = {
+    "open": "opens a category: freight, passengers, both or hub",
+    "post": "posts an entry of emissions to a category",
+    "strike": "strikes an entry, by its number",
+    "enrol": "enrols freight or passengers of a chain in a category",
+    "quote": "quotes a leg of another carrier, in no category",
+    "close": "closes a category: its elements get their shares",
+    "statement": "shows what a chain is charged with",
+    "intensity": "shows the intensity of a closed category, for ambient, "
+                 "chilled, frozen or lowest (class)",
+    "fresh": "begins an empty book",
+    "load": "begins a book from its text",
+    "show": "shows every record of the book",
+    "sheet": "shows what every chain is charged with, in tonnes",
+    "name": "names a chain",
+    "save": "saves the accepted lines as a list",
+    "help": "shows this, or more of one word",
+    "quit": "ends",
+}
+
+
+def help_on(word):
+    if not word:
+        for other, purpose in WHAT_FOR.items():
+            yield "%-9s  %s" % (other, purpose)
+        yield "`help post` shows how a post is written, and so on"
+        yield ("how a share came about, `quay explain` shows of a book's text, "
+               "outside of this")
+        return
+    yield "%s: %s" % (word, WHAT_FOR[word])
+    example = CALLS[word].example if word in CALLS else OTHERS[word]
+    yield "    %s" % example
+    if word in CALLS and CALLS[word].fields:
+        yield "    %s" % expected_fields(word, CALLS[word].fields)
+        for field in CALLS[word].fields:
+            if field.what:
+                yield "    %s is %s" % (field.word, field.what)
+            if field.word in VALUES:
+                yield "    %s is a number or a word: %s" % (
+                    field.word, numbered(VALUES[field.word]))
+
+
+# Lists.
+
+def requests_of(lines, folder=""):
+    """The requests of a list's lines, and the problems of those."""
+    requests, problems = [], []
+    for number, line in enumerate(lines, 1):
+        try:
+            requests.append(request_of(line, folder))
+        except Wrong as wrong:
+            problems.append(pack.Problem(number, line, *wrong.args))
+    return requests, problems
+
+
+def printable(line):
+    """A line without signs that steer a terminal."""
+    return "".join(sign if sign.isprintable() or sign == "\t" else "?"
+                   for sign in line)
+
+
+def transcript(session, lines, requests):
+    """Every line of a list, a call behind `> `, with its answer."""
+    for line, request in zip(lines, requests):
+        if request is None:
+            yield printable(line.rstrip())
+            continue
+        yield "> " + printable(request.line)
+        if request.word == "quit":
+            return
+        yield from session.answer(request)
