@@ -37,12 +37,12 @@ wrong goes to standard error, and the exit status is 1.
 import sys
 from collections import namedtuple
 
-from calculation.book import CHAINS
+from calculation.book import CHAINS, LISTINGS
 from cases.file_writer import (
     HEADER_BYTES, MOST_BYTES, SIZES, SMALL_FIELDS, file_of)
 from command.amounts import counted
 from command.fields import (
-    ALWAYS_0, CATEGORY, CHAIN, DISTANCE, NUMBER, ONE_COMMA, Wrong,
+    ALWAYS_0, CATEGORY, CHAIN, DISTANCE, NUMBER, Wrong, as_thousands,
     expected_fields, flag, given_numbers, is_like_number, meant, must_be_0,
     needed, number_of, record_numbers, shown)
 from command.texts import (
@@ -51,6 +51,7 @@ from command.texts import (
 
 MOST_SHOWN = 10  # bad lines that are told of
 NO_TEXT = "%s is no text; save it as plain text, in UTF-8"
+NO_RECORD = "there is no record in this text"
 
 # A record: its table, and its fields in document 01's order.
 Record = namedtuple("Record", "table fields")
@@ -59,6 +60,8 @@ QUANTITY = needed("quantity",
                   "in thousandths of a unit, of a kg for example")
 FACTOR = "in mg CO2e per unit"
 INTENSITY = "in mg CO2e per tonne-km"
+CODE = needed("code", "for passengers their class in hundredths of the lowest, "
+                      "100 to 1000")
 
 RECORDS = {
     "category": Record(1, (needed("kind"), flag("close"))),
@@ -66,13 +69,13 @@ RECORDS = {
         CATEGORY, needed("group"), QUANTITY,
         needed("operation", FACTOR), needed("provision", FACTOR))),
     "element": Record(3, (
-        CATEGORY, CHAIN, needed("code"),
-        flag("adjust", offered=False),
+        CATEGORY, CHAIN, CODE, flag("adjust", offered=False),
         needed("amount", "in kg, or heads for passengers"), DISTANCE,
         must_be_0("operation"), must_be_0("provision"))),
     # Its category and its code are 0.
     "quote": Record(3, (
-        ALWAYS_0, CHAIN, ALWAYS_0, flag("adjust"),
+        ALWAYS_0, CHAIN, ALWAYS_0,
+        flag("adjust", "for an air leg: its emissions are of 95 km more"),
         needed("mass", "in kg"), needed("distance", "in m"),
         needed("operation", INTENSITY),
         needed("provision", INTENSITY))),
@@ -129,13 +132,13 @@ def instead_of(name):
 
 
 def is_name(line):
-    return line.split()[:1] != [] and line.split()[0].lower() == NAME
+    return without_remark(line).lower().split()[:1] == [NAME]
 
 
 def name_of(line):
     """The chain that a line names, and its name."""
     words = without_remark(line).split()[1:]
-    if words[:1] == ["chain"]:
+    if [word.lower() for word in words[:1]] == ["chain"]:
         words = words[1:]
     if len(words) < 2:
         raise Wrong("a chain's number or its name is missing", EXPECTED_NAME)
@@ -166,8 +169,6 @@ class Text:
         self.numbers = ([], [], [])
         self.names = {}
         self.problems = []
-        self.bytes = HEADER_BYTES
-        self.too_many = None  # the number of the first line without room
         for number, line in enumerate(self.lines, 1):
             try:
                 if is_name(line):
@@ -176,7 +177,7 @@ class Text:
                     self.add_record(number, without_comment(line).split())
             except Wrong as wrong:
                 self.problems.append(Problem(number, line, *wrong.args))
-        if self.too_many is not None:
+        if self.bytes() > MOST_BYTES:
             self.problems.append(self.no_room())
             self.problems.sort()
         self.notes = list(self.all_notes())
@@ -192,47 +193,51 @@ class Text:
             return
         name, *words = words
         table, numbers = record_of(name.lower(), words)
-        self.bytes += SIZES[table - 1]
-        if self.bytes > MOST_BYTES and self.too_many is None:
-            self.too_many = number
         self.tables[table - 1].append(numbers)
         self.numbers[table - 1].append(number)
 
+    def bytes(self):
+        """How many bytes the file has."""
+        return HEADER_BYTES + sum(size * len(table) for size, table
+                                  in zip(SIZES, self.tables))
+
     def no_room(self):
+        """The first record past the limit of its list; a file that is too
+        long has one."""
+        number = min(numbers[listing.most]
+                     for listing, numbers in zip(LISTINGS, self.numbers)
+                     if len(numbers) > listing.most)
         return Problem(
-            self.too_many, self.lines[self.too_many - 1],
-            "from this record on there is no room: the file would pass {:,} "
-            "bytes".format(MOST_BYTES),
+            number, self.lines[number - 1],
+            "from this record on its list is full, and all records are more "
+            "than a file has room for ({:,} bytes)".format(MOST_BYTES),
             "expected no more than 16 categories, 64 entries and 256 elements "
             "and quotes; here are %d, %d and %d"
             % tuple(map(len, self.tables)))
 
     def all_notes(self):
         if self.is_empty() and not self.problems:
-            yield "there is no record in this text"
+            yield NO_RECORD
         yield from carriage_returns(self.lines)
         for record, (category, *_) in enumerate(self.tables[2], 1):
             line = self.lines[self.line_of(3, record) - 1]
             if category == 0 and line.split()[0].lower() == "element":
-                yield ("line %d: an element of category 0 is a quote, in no "
-                       "category" % self.line_of(3, record))
+                yield ("line %d: an element of category 0 is a quote: it is "
+                       "in no category, and its emissions are by its own "
+                       "intensities alone" % self.line_of(3, record))
         yield from self.commas()
 
     def commas(self):
         """A note where a comma between thousands may be meant as one before
         decimals."""
-        found = [(number, word) for number, line in enumerate(self.lines, 1)
+        found = [(number, read_as) for number, line in enumerate(self.lines, 1)
                  if not is_name(line)
-                 for word in without_comment(line).split()
-                 if ONE_COMMA.fullmatch(word)]
+                 for read_as in as_thousands(without_comment(line))]
         if found:
-            number, word = found[0]
             more = len(found) - 1
-            yield ("line %d: `%s` is read as %d, since a comma stands between "
-                   "thousands here and never before decimals%s" % (
-                       number, word, int(word.replace(",", "")),
-                       more and "; %s alike" % counted(
-                           more, "more number is", "more numbers are") or ""))
+            yield "line %d: %s%s" % (
+                *found[0], more and "; %s alike" % counted(
+                    more, "more number is", "more numbers are") or "")
 
     def is_empty(self):
         return not any(self.tables)
@@ -250,6 +255,13 @@ class Text:
         """A category, entry or element with its line."""
         return "%s %d (line %d)" % (
             word, record, self.line_of(RECORDS[word].table, record))
+
+    def to_close(self, category):
+        """How a category is closed that is not."""
+        line = self.line_of(1, category)
+        if "close" in without_comment(self.lines[line - 1]).lower().split():
+            return "make `close 0` on line %d `close`" % line
+        return "put `close` on line %d" % line
 
     def data(self):
         """The bytes of the file."""

@@ -272,14 +272,11 @@ def close(words, category):
 
 
 def statement(words, chain):
-    return statement_of(sound_book(words), chain)
-
-
-def statement_of(book, chain):
     """"counted and added over the elements of that chain alone, elements,
     waiting (those in open categories), operation, provision, total
     (operation plus provision); zeros for an unused chain".
     """
+    book = sound_book(words)
     own = [element for element in book.elements if element.chain == chain]
     waiting = [element for element in own if book.is_open(element.category)]
     operation, provision = (total(own, amount) for amount in AMOUNTS)

@@ -13,6 +13,7 @@ difference with exit status 1.
 
 import os
 import random
+import shlex
 import subprocess
 import sys
 
@@ -125,7 +126,8 @@ def as_a_command():
     for words, status, output in (
         (("sheet", DOCUMENT), DONE, stored("crates", "quaymeter", "stdout")),
         (("play", CLASS), REFUSED, stored("examples", "class-answers.txt")),
-        (("sheet", "none.txt"), BAD_TEXT, ""),
+        (("sheet", QUAY), BAD_TEXT, ""),
+        (("sheet", "none.txt"), CANNOT, ""),
         (("explain", DOCUMENT, "9"), CANNOT, ""),
     ):
         done = subprocess.run([QUAY, *words], stdout=subprocess.PIPE,
@@ -134,11 +136,18 @@ def as_a_command():
                "quay " + " ".join(words), done)
         expect((done.stderr == b"") == (status in (DONE, REFUSED)),
                "its messages", done)
-    done = subprocess.run("'%s' play '%s' | head -1" % (QUAY, CLASS),
-                          shell=True, stdout=subprocess.PIPE,
-                          stderr=subprocess.PIPE)
-    expect((done.stdout.count(b"\n"), done.stderr) == (1, b""),
-           "an output that is not read", done)
+    for command, lines, told in (
+        ("%s play %s | head -1", 1, b""),
+        # A terminal that has no letter µ.
+        ("PYTHONIOENCODING=ascii %s play %s | grep -m 1 '000 ?g'", 1, b""),
+        ("%s play %s > /dev/full", 0, b"the output cannot be written: No space "
+         b"left on device\n"),
+    ):
+        done = subprocess.run(command % (shlex.quote(QUAY), shlex.quote(CLASS)),
+                              shell=True, stdout=subprocess.PIPE,
+                              stderr=subprocess.PIPE)
+        expect((done.stdout.count(b"\n"), done.stderr) == (lines, told),
+               "an output that cannot be read or written whole", done)
 
 
 def main(arguments):

@@ -9,11 +9,14 @@ from fractions import Fraction
 from unittest import mock
 
 from calculation import player
-from calculation.book import CATEGORIES, ELEMENTS, ENTRIES, word
+from calculation.book import (
+    CATEGORIES, ELEMENTS, ENTRIES, LENGTH, Book, word)
+from calculation.closing import Sums
 from calculation.sheet import sheet
 from cases.random_files import random_parts
 from checks.quay_runs import CALCULATED, stored, tells_difference, text_of
-from command.explaining import NoChain, explanation, largest, mixed
+from command.explaining import (
+    LEAST_TOO_FAR, NoChain, explanation, largest, mixed)
 from command.ledger import loaded
 from command.programs import Programs
 from pack import Text
@@ -24,7 +27,7 @@ TEXTS = 200
 
 def ledger_of(text, programs=CALCULATED):
     ledger, answer = loaded(programs, text.data())
-    if text.problems or answer != (0, 0, 0):
+    if text.problems or answer != [0, 0, 0]:
         raise ValueError("no book: %r %r" % (text.problems, answer))
     return ledger
 
@@ -101,17 +104,20 @@ def both_kinds(check):
         "category 1: C, the activity of all its passengers, is 500",
         "A is 9, as above the passenger part is 6, as above",
         "passenger part × activity / C = 6 × 100 / 500 = 1 1/5: floor 1, "
-        "remainder 100 the floors of all 2 add up to 5: 1 µg is left over, for "
-        "the largest remainder: element 3: 400, element 2: 100 its own is the "
-        "2nd largest of 2: it gets none share: 1 µg",
+        "remainder 100 (100 / 500 is 1/5 in lowest terms) the floors of all 2 "
+        "add up to 5: 1 µg is left over, for the largest remainder: element 3: "
+        "400, element 2: 100 its own is the 2nd largest of 2: it gets none "
+        "share: 1 µg",
         "exact share: A × P × activity / ((F + P) × C) = 1 1/5; the share is "
         "1/5 µg below it, which is less than 3 µg")
     check_in_order(
         check, board_of(BOTH, 2),
-        "6 × 400 / 500 = 4 4/5: floor 4, remainder 400 the floors of all 2 add "
-        "up to 5: 1 µg is left over, for the largest remainder: element 3: "
-        "400, element 2: 100 its own is the largest of 2: it gets one share: 5 "
-        "µg", "= 4 4/5; the share is 1/5 µg above it")
+        "6 × 400 / 500 = 4 4/5: floor 4, remainder 400 (400 / 500 is 4/5 in "
+        "lowest terms) the floors of all 2 add up to 5: 1 µg is left over, for "
+        "the largest remainder: element 3: 400, element 2: 100 its own is the "
+        "largest of 2: it gets one share: 5 µg",
+        "= 4 4/5; the share is 1/5 µg above it")
+    check("lowest terms" not in board_of(EQUAL, 1), "in lowest terms already")
 
 
 def formulas(check):
@@ -187,6 +193,9 @@ def groups(check):
         "share: 0 + 1 = 1 µg (0.000000000001 t), as in the ledger exact "
         "share: B1 × activity / S = 1/2; the share is 1/2 µg above it, which "
         "is less than 3 µg")
+    lines = [category("freight"), entry("all", 1), element(1, "frozen", 1)]
+    check_in_order(check, board_of(lines, 1), "no entry of the frozen group: "
+                   "nothing to divide share: 1 + 0 = 1 µg")
 
 
 def passengers_alone(check):
@@ -235,6 +244,7 @@ def ties(check):
     lines += [element(1 + (k > 0), "ambient", 1) for k in range(7)]
     check_in_order(check, board_of(lines, 1),
                    tie % "2, 3, 4, 5 and 2 more", "share: 1 µg")
+    check_in_order(check, board_of(lines[:-2], 1), tie % "2, 3, 4 and 5")
 
 
 def remainders(check):
@@ -288,8 +298,8 @@ def waiting(check):
         check, board,
         "element 1 (line 4): category 1, ambient freight, 2 kg over 1 m",
         "it waits for category 1 (line 2), which is not closed: it has no "
-        "share until that category is closed when all its entries are there, "
-        "write `close` on line 2 element 2",
+        "share until that category is closed when all its entries are "
+        "written, put `close` on line 2 element 2",
         "element 1, waiting 0 0 0 element 2 4 5 9 sum 4 5 9 ledger's "
         "statement 4 5 9 in tonnes 0.000000000004 0.000000000005 "
         "0.000000000009 the statement counts 2 elements, 1 waiting")
@@ -341,8 +351,8 @@ def with_numbers(is_changed, place):
 
 
 def with_word(place):
-    """Programs that show a word of the book greater by 1."""
-    return with_numbers(lambda lines, at: len(lines[at]) > 300, place)
+    """Programs that show a word of the book greater by 1 after a load."""
+    return with_numbers(lambda lines, at: (len(lines), at) == (3, 2), place)
 
 
 def with_statement(place):
@@ -356,65 +366,88 @@ def with_division(place):
     return with_numbers(lambda lines, at: len(lines) == 1, place)
 
 
-def wrong_records(check):
+def wrong_words(check):
+    """Each word of the book is compared."""
     for place, what, wrong, right in (
-            (1, "the number of categories", 2, 1),
-            (2, "the number of entries", 3, 2),
-            (3, "the number of elements", 3, 2),
-            (word(CATEGORIES, 1, "kind"), "category 1 (line 1), kind", 2, 1),
-            (word(CATEGORIES, 1, "closed"), "category 1 (line 1), closed",
-             2, 1),
-            (word(ENTRIES, 2, "category"), "entry 2 (line 3), category",
-             2, 1),
-            (word(ENTRIES, 2, "group"), "entry 2 (line 3), group", 2, 1),
-            (word(ENTRIES, 2, "operation"), "entry 2 (line 3), operation",
-             6, 5),
-            (word(ENTRIES, 2, "provision"), "entry 2 (line 3), provision",
-             1, 0),
-            (word(ENTRIES, 2, "struck"), "entry 2 (line 3), struck", 1, 0),
-            (word(ELEMENTS, 2, "category"), "element 2 (line 5), category",
-             2, 1),
-            (word(ELEMENTS, 2, "chain"), "element 2 (line 5), chain", 3, 2),
-            (word(ELEMENTS, 2, "code"), "element 2 (line 5), code", 2, 1),
-            (word(ELEMENTS, 2, "amount"), "element 2 (line 5), amount",
-             301, 300),
-            (word(ELEMENTS, 2, "distance"), "element 2 (line 5), distance",
-             2, 1),
-            (word(ELEMENTS, 2, "activity"), "element 2 (line 5), activity",
-             301, 300)):
-        tells_difference(check, "%s: the program says %d, reckoned here it is "
-                         "%d" % (what, wrong, right), board_of, CHILLED, 1,
-                         with_word(place))
+            (0, "word 0", 14084, 14083), (3, "word 3", 3, 2),
+            (word(CATEGORIES, 1, "closed"), "category 1, closed", 2, 1),
+            (word(CATEGORIES, 16, "closed"), "category 16, closed", 1, 0),
+            (word(ENTRIES, 1, "category"), "entry 1, category", 2, 1),
+            (word(ENTRIES, 2, "operation"), "entry 2, operation", 6, 5),
+            (word(ENTRIES, 64, "struck"), "entry 64, struck", 1, 0),
+            (word(ELEMENTS, 2, "activity"), "element 2, activity", 301, 300),
+            (word(ELEMENTS, 2, "operation"), "element 2, operation", 12, 11),
+            (LENGTH - 1, "element 256, provision", 1, 0)):
+        tells_difference(
+            check, "after `load` replay shows %d in the book's %s, and %d is "
+            "reckoned here" % (wrong, what, right), board_of, CHILLED, 1,
+            with_word(place))
+
+
+def changed(lines, *changes):
+    """The explanation of chain 1 after changes of the book's words."""
+    text = Text("\n".join(lines))
+    ledger = ledger_of(text)
+    words = list(ledger.words)
+    for place, change in changes:
+        words[place] += change
+    ledger.book = Book(words)
+    return explanation(text, ledger, 1)
+
+
+def wrong_sums(check):
+    """What is divided, and what it is divided by."""
+    for place, what, told, reckoned in (
+            (word(ENTRIES, 1, "operation"), "its operation entries", 9, 10),
+            (word(ENTRIES, 1, "provision"), "its provision entries", 0, 1),
+            (word(ELEMENTS, 3, "operation"), "its operation entries", 10, 9),
+            (word(ELEMENTS, 3, "amount"), "P", 200, 300),
+            (word(ELEMENTS, 3, "distance"), "P", 200, 300)):
+        tells_difference(check, "category 1, %s: the program says %d, reckoned "
+                         "here it is %d" % (what, told, reckoned), changed,
+                         BOTH, (place, 1))
+    for letter in "FCP":
+        with mock.patch("command.explaining.Sums", lambda *book: mock.Mock(
+                wraps=Sums(*book), **{"F": 100, "P": 200, "C": 500,
+                                      letter: 99})):
+            tells_difference(check, "category 1, %s: the program says" % letter,
+                             changed, BOTH)
 
 
 def wrong_shares(check):
+    first, second = (word(ELEMENTS, number, "operation") for number in (1, 2))
     quoted = [quote(500, 1, 1, 3)]
-    for lines, side, what, wrong, right in (
-            (BOTH, "operation", "element 1 (line 3), operation share", 4, 3),
-            (BOTH, "provision", "element 1 (line 3), provision share", 1, 0),
-            (quoted, "operation", "element 1 (line 1), operation share",
-             2, 1),
-            (quoted, "provision", "element 1 (line 1), provision share",
-             3, 2),
-            (WAITING, "operation",
-             "element 1 (line 4), operation share while it waits", 1, 0),
-            (WAITING, "provision",
-             "element 1 (line 4), provision share while it waits", 1, 0)):
+    for lines, what, wrong, right, *changes in (
+            (BOTH, "element 1 (line 3), operation share", 4, 3, (first, 1),
+             (second, -1)),
+            (BOTH, "element 1 (line 3), provision share", 1, 0, (first + 1, 1),
+             (second + 1, -1)),
+            (quoted, "element 1 (line 1), operation share", 2, 1, (first, 1)),
+            (quoted, "element 1 (line 1), provision share", 3, 2,
+             (first + 1, 1))):
         tells_difference(check, "%s: the program says %d, reckoned here it is "
-                         "%d" % (what, wrong, right), board_of, lines, 1,
-                         with_word(word(ELEMENTS, 1, side)))
+                         "%d" % (what, wrong, right), changed, lines, *changes)
 
 
 def wrong_statements(check):
+    """A statement is compared, and so is the sum that is explained."""
     right = [0, 2, 1, 4, 5, 9]
     for place in range(1, len(right)):
         wrong = list(right)
         wrong[place] += 1
         tells_difference(
-            check, "chain 1: the program says %s, and its element records add "
-            "up to %s" % tuple(" ".join(map(str, numbers[1:]))
-                               for numbers in (wrong, right)),
+            check, "replay answers `%s` to `statement 1`, and `%s` is reckoned "
+            "here" % tuple(" ".join(map(str, numbers))
+                           for numbers in (wrong, right)),
             board_of, WAITING, 1, with_statement(place))
+        what = ("elements", "waiting", "operation", "provision",
+                "total")[place - 1]
+        with mock.patch("command.ledger.Ledger.statements",
+                        return_value=[wrong[1:]]):
+            tells_difference(check, "chain 1, %s: the program says %d, "
+                             "reckoned here it is %d" % (
+                                 what, wrong[place], right[place]),
+                             board_of, WAITING, 1)
 
 
 def wrong_divisions(check):
@@ -432,6 +465,7 @@ def wrong_divisions(check):
                             else player.play(data))
         tells_difference(check, "into %d shares" % count, board_of, BOTH, 1,
                          programs)
+    check(LEAST_TOO_FAR == 3, "less than 3 µg")
     with mock.patch("command.explaining.LEAST_TOO_FAR", Fraction(1, 5)):
         tells_difference(check, "the share 1 is 1/5 µg from the exact one",
                          board_of, BOTH, 1)
@@ -509,7 +543,8 @@ def run(check):
     waiting(check)
     unused_chains(check)
     numbers_in_words(check)
-    wrong_records(check)
+    wrong_words(check)
+    wrong_sums(check)
     wrong_shares(check)
     wrong_statements(check)
     wrong_divisions(check)

@@ -110,8 +110,8 @@ CALLS = (
      "no room for another element"),
     # 9
     (("open 1",), "close 1", 9,
-     "no element in category 1: category 1 needs an element to carry its "
-     "emissions"),
+     "no element in category 1: category 1 needs an element before it can be "
+     "closed"),
     (("open 1", POST % (1, 1, 1, 0)), "close 1", 9,
      "no element in category 1: category 1 needs an element",
      "chilled emissions and no chilled element in category 1: entry 1 benefits "
@@ -121,9 +121,13 @@ CALLS = (
       (POST % (2, 1, 1, 1)).replace("category 1", "category 2")), "close 1", 9,
      "chilled emissions and no chilled element in category 1: entry 1 and "
      "entry 2 benefit chilled freight alone; category 1 needs an element of "
-     "`code chilled`, or these emissions `group all`",
+     "`code chilled`, or these emissions are struck, and posted again with "
+     "`group all`",
      "frozen emissions and no frozen element in category 1: entry 3 benefits "
      "frozen freight alone; category 1 needs an element of `code frozen`"),
+    # As much of passengers as of freight.
+    (("open 3", ENROL % (7, 0, 100, 1), ENROL % (7, 100, 1, 1),
+      POST % (1, 1, 1, 1)), "close 1", 9, "chilled emissions and no chilled"),
     (("open 2", ENROL % (7, 100, 1, 1), "close 1"), "intensity 1 0", 9,
      "no freight in category 1: category 1 carries none, so it has no "
      "intensity for it"),
@@ -147,7 +151,12 @@ CALLS = (
      ENROL % (7, 0, 10 ** 9, 40_000_000), 10,
      "more than 10^17 of activity: kg × m over all elements, a head counted as "
      "100 kg and a hub without m, would add up to 120_000_000_000_000_000"),
-    # Emissions at their limit are no reason for it.
+    # What is at its limit is no reason for it.
+    (("open 1",), POST % (0, 10 ** 12, 10 ** 6, 10 ** 6 + 1), 10,
+     "more than 10^18 µg in provision: "),
+    (("open 1", POST % (0, 10 ** 6, 10 ** 6, 10 ** 6 + 1),
+      ENROL % (7, 0, 1, 1), "close 1"), "intensity 1 0", 10,
+     "an intensity above 10^15 mg: provision would be 1_000_001_000_000_000"),
     (("open 1", POST % (0, 10 ** 12, 10 ** 6, 10 ** 6))
      + (ENROL % (7, 0, 10 ** 9, 40_000_000),) * 2,
      ENROL % (7, 0, 10 ** 9, 40_000_000), 10, "more than 10^17 of activity"),
@@ -211,6 +220,9 @@ FILES = (
     (((1, 0),), (), (FREIGHT, (1, 7, 0, 1, 1, 1, 0, 2)),
      "line 3: element 2: adjust and provision for an element of a category "
      "(refused 13)", "only a quote has an air adjustment or intensities"),
+    (((1, 0),), (), ((1, 7, 0, 0, 1, 1, 3, 2),),
+     "line 2: element 1: operation and provision for an element of a category "
+     "(refused 13)", "an element's share comes from its category's entries"),
     ((), (), ((0, 7, 3, 0, 1, 1, 0, 0),),
      "line 1: element 1: code 3 for an element of category 0 (refused 13)",
      "an element of category 0 is a quote"),
@@ -222,7 +234,8 @@ FILES = (
      "line 2: closing of category 2: chilled emissions and no chilled element "
      "in category 2 (refused 9)",
      "entry 1 (line 3) benefits chilled freight alone; category 2 (line 2) "
-     "needs an element of `code chilled`"),
+     "needs an element of `code chilled`, or these emissions are written with "
+     "`group all`"),
 )
 
 
@@ -304,27 +317,15 @@ def check_load(check, data, numbers):
 # Wrong programs.
 
 def differences(check):
-    """A number that the book does not give is told."""
+    """A number of which nothing is found in the book is told."""
     session = playing.Session(CALCULATED)
     for line in ("open 1", ENROLLED):
         session.answer(playing.request_of(line))
-    for number in (1, 3, 4, 9):
+    for number in (1, 2, 3, 4, 9):
         tells_difference(
-            check, "answers %d to `close 2`, and 2 is reckoned" % number,
+            check, "refuses with %d, and nothing of that number" % number,
             lambda: list(refusals.of_call(number, session.ledger.words,
-                                          "close", (2,))))
-    tells_difference(
-        check, "refuses with 1, and nothing of that number",
-        lambda: list(refusals.of_call(1, [0] * 2404, "close", (2,))))
-    # A file that is stopped where 13 holds and with another number, with 13
-    # where it does not hold, or where there is no record.
-    for numbers, flag in (((3, 1, 1), 2), ((13, 1, 1), 0), ((11, 0, 0), 0),
-                          ((3, 7, 99), 0)):
-        text = pack.Text(text_of(((9, flag),), (), ()))
-        tells_difference(
-            check, "refuses with %d at record %d of table %d, and nothing"
-            % (numbers[0], numbers[2], numbers[1]),
-            refusals.of_file, numbers, text, session.ledger)
+                                          "close", (1,))))
 
 
 def run(check):

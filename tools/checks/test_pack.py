@@ -75,14 +75,16 @@ def value_words():
              [(1, 2, number, 0, 4, 5, 0, 0)])
     bad("category kind fright", "did you mean `freight`?",
         "expected freight (1), passengers (2), both (3) or hub (4)")
-    bad("category kind terminal", "did you mean `hub`?")
     bad(ELEMENT.replace("code 3", "code reefer"), "did you mean `chilled`?")
     bad("category kind ambient", "`ambient` after `kind` is not a whole "
         "number, nor one of its words")
     bad(ENTRY.replace("group 2", "group ambient"), "`ambient` after `group`",
         "all (0), chilled (1) or frozen (2)")
     bad(ELEMENT.replace("code 3", "code first"), "`first` after `code`",
-        "lowest (100), or up to 1000, a passenger class")
+        "lowest (100); `code` is for passengers their class in hundredths of "
+        "the lowest, 100 to 1000")
+    for word in ("terminal", "port", "warehouse"):
+        bad("category kind " + word, "did you mean `hub`?")
     bad("category freight", "did you mean `kind freight`?")
     bad(ENTRY.replace("quantity 3", "quantity all"), "`all` after `quantity`")
 
@@ -109,10 +111,14 @@ def forms():
     for comment in (b"#\0\n", b"#\0a\0\n", b"#" + b"\0" * 200 + b"\n"):
         good(texts.decoded(comment + "\n".join(LINES).encode()),
              *PACKED_LINES)
-    data = b"# M\xfcller\ncategory\xa0kind 1\nname 7 M\xfcller & S\xf8n"
+    data = b"# M\xfcller\ncategory\xa0kind 1\nname 7 M\xfcller & S\xf8n \x80"
     book = pack.Text(texts.decoded(data))
-    check(not book.problems and book.names == {7: "M\u00fcller & S\u00f8n"},
-          "letters of Windows", book.names)
+    check(not book.problems and book.names
+          == {7: "M\u00fcller & S\u00f8n \u20ac"}, "letters of Windows",
+          book.names)
+    # A text of DOS ends in Ctrl-Z.
+    good("\r\n".join(LINES) + "\r\n\x1a", *PACKED_LINES)
+    bad("\x1a" + QUOTE, "no record is called `<U+001A>quote`")
     # Lines are counted by their own ends.
     for end in ("\n", "\r\n", "\r"):
         problems = pack.packed(end.join((QUOTE, "", "\tzzz", QUOTE)))[1]
@@ -133,13 +139,15 @@ def notes():
           and len(text.tables[2]) == 1, "mixed line ends", text.notes)
     text = pack.Text(QUOTE + "\n" + ELEMENT.replace("category 1",
                                                     "category 0"))
-    check(text.notes == ["line 2: an element of category 0 is a quote, in no "
-                         "category"], "category 0", text.notes)
+    check(text.notes == ["line 2: an element of category 0 is a quote: it is "
+                         "in no category, and its emissions are by its own "
+                         "intensities alone"], "category 0", text.notes)
     lines = [QUOTE.replace("distance 3", "distance " + number)
              for number in ("300", "3,206", "12,000,000", "0,620", "1_000")]
-    for count, more in ((2, ""), (3, ""), (5, "; 1 more number is alike")):
+    for count, more in ((2, ""), (3, ""), (5, "; 1 more number is alike"),
+                        (7, "; 2 more numbers are alike")):
         text = pack.Text("\n".join(["# 1,000", "name 1 1,000"]
-                                   + lines[:count]))
+                                   + (lines + lines)[:count]))
         check(text.notes == ["line 4: `3,206` is read as 3206, since a comma "
                              "stands between thousands here and never before "
                              "decimals" + more], "a comma", text.notes)
@@ -147,12 +155,13 @@ def notes():
 
 def names():
     text = pack.Text("name 7 Harbour  Mills # of the harbour\n%s\n"
-                     "Name chain 4 7 Up\nname 10,000 x" % QUOTE)
+                     "Name Chain 4 7 Up\nname 10,000 x" % QUOTE)
     check(not text.problems and text.names == {
         7: "Harbour Mills", 4: "7 Up", 10_000: "x"}, "names", text.names)
     check(text.data() == file_of((), (), [(0, 1, 0, 0, 2, 3, 4, 5)]),
           "a name is not packed")
-    for line in ("name", "name 7", "name chain 7", "name 7 # Mills"):
+    for line in ("name", "name 7", "name chain 7", "name 7 # Mills",
+                 "name# Mills"):
         bad(line, "a chain's number or its name is missing",
             "the number of a chain, 1 to 10,000", "`name 7 Harbour Mills`")
     for line in ("name Mills 7", "name 7: Mills", "name 7.5 Mills"):
@@ -161,11 +170,11 @@ def names():
     bad("name 0 x", "there is no chain 0 to name", "1 to 10,000")
     bad("name 10001 x", "there is no chain 10001 to name")
     text = pack.Text("name 3 Pier #3 Fruit # in the harbour\nname 4 \x1b[1mA#")
-    check(text.names == {3: "Pier #3 Fruit", 4: "?[1mA"}, "signs of a name",
-          text.names)
+    check(text.names == {3: "Pier #3 Fruit", 4: "<U+001B>[1mA"},
+          "signs of a name", text.names)
     text = pack.Text("name 7 a\nname 7 b")
-    check([(problem.number, problem.what) for problem in text.problems]
-          == [(2, "chain 7 has a name already")], "two names")
+    check(text.problems == [(2, "name 7 b", "chain 7 has a name already",
+                             "expected one name for a chain")], "two names")
 
 
 def refused_by_the_ledger():
@@ -206,17 +215,29 @@ def numbers():
     for text in ("300km", "1_000kg", "5m", "5KM"):
         bad(QUOTE.replace("distance 3", "distance " + text),
             "a number stands without its unit", "`distance` is in m")
+
+
+def no_numbers():
+    """What is no number is told with its reason."""
     for text in ("12'000", "12\u2019000\u2019000"):
         bad(QUOTE.replace("mass 2", "mass " + text), "not a whole number: "
             "between the groups of a long number stands `_`")
     for text in ("3e4", "1.5E+6", "0x10"):
         bad(QUOTE.replace("mass 2", "mass " + text), "not a whole number: it "
             "is written with all its digits")
+    for text in ("1_00", "1__000", "1_000,000", "1,000_000"):
+        bad(QUOTE.replace("mass 2", "mass " + text), "as it stands: `_` stands "
+            "between groups of three digits")
+    for text in ("-5", "+1_000", "-0.5"):
+        bad(QUOTE.replace("mass 2", "mass " + text), "not a whole number as it "
+            "is written here: it has no sign, and none is below 0")
+    bad(QUOTE.replace("mass 2", "mass \u0663\uff11"), "not a whole number in "
+        "the digits 0 to 9")
     for text in ("50%", "1/2", "780_000;", "3-4", "187_OOO", "5m\u00b2"):
         told = pack.packed(QUOTE.replace("mass 2", "mass " + text))[1][0].what
         check(told == "`%s` after `mass` is not a whole number" % text,
               "no number", told)
-    for text in ("km", "KM", "kg", "tonnes"):
+    for text in ("km", "KM", "kg", "tonnes", "miles", "km,", "m."):
         bad(QUOTE.replace("distance 3", "distance 3 " + text),
             "`%s` is no word here: a number stands without its unit; "
             "`distance` is in m" % text)
@@ -266,6 +287,9 @@ def bad_lines():
     bad("category kind 1 close 1.5", "`1.5` after `close`")
     bad("category kind 1 adjust", "`adjust` is no word of `category`")
     bad("category kind 1: close", "`1:` after `kind`")
+
+
+def bad_fields():
     bad("entry category 1",
         "missing: group, quantity, operation and provision",
         "entry with category, group, quantity, operation and provision")
@@ -283,9 +307,24 @@ def bad_lines():
         "did you mean `amount`?")
     bad(ELEMENT.replace("distance", "length"), "did you mean `distance`?")
     bad(ELEMENT.replace("chain 2", "chain Mills"), "`Mills` after `chain`",
-        "`chain` is a number from 1 to 10,000, and `name` gives it a name")
+        "`chain` is a number from 1 to 10,000, also where `name` gives it a "
+        "name")
+    bad(ELEMENT.replace("distance 5", "distance x"), "`x` after `distance`",
+        "`distance` is in m, and 0 in a hub")
+    bad(ENTRY.replace("operation 4", "operation x"), "`x` after `operation`",
+        "`operation` is in mg CO2e per unit")
+    bad(QUOTE.replace("provision 5", "provision x"), "`x` after `provision`",
+        "`provision` is in mg CO2e per tonne-km")
+    bad(QUOTE + " adjust 1.5", "`1.5` after `adjust`", "`adjust` is for an air "
+        "leg: its emissions are of 95 km more")
     bad(QUOTE.replace("mass", "amount"), "did you mean `mass`?", "chain, mass",
         "it may have adjust")
+    bad(QUOTE.replace("distance 3", "distance=3"), "`distance=3` is no word "
+        "here; did you mean `distance 3`?")
+    bad(QUOTE.replace("distance 3", "Distance: 3"), "`Distance:` is no word "
+        "here; did you mean `distance ..`?")
+    bad(QUOTE + " air", "did you mean `adjust`?")
+    bad(QUOTE + " x=1", "`x=1` is no word of `quote`")
     bad(QUOTE + " category 0", "`category` is no word")
     bad(QUOTE + " code 0", "`code` is no word")
     bad(QUOTE.replace("distance 3", "distance"), "no number after `distance`")
@@ -336,15 +375,31 @@ def too_many_bytes():
     data, problems = pack.packed("\n".join(fits))
     check(not problems and len(data) == 16_384, "the longest", len(data))
     check(len(table_records(data, 3)) == 340, "all are there")
+    # A name needs no room.
+    named = "\n".join(["name %d x" % chain for chain in range(1, 400)] + fits)
+    check(pack.packed(named) == (data, []), "the longest, with names")
+    # The first record past the limit of its list is told.
+    last = QUOTE + " adjust"
+    fits[256] = last
     for line in ("category kind 1", ENTRY, QUOTE):
         problems = pack.packed("\n".join(fits + [line]))[1]
-        check([problem.number for problem in problems] == [345]
-              and problems[0].what == "from this record on there is no room: "
-              "the file would pass 16,384 bytes", "too long", problems)
+        check([problem[:3] for problem in problems] == [(
+            257, last, "from this record on its list is full, and all records "
+            "are more than a file has room for (16,384 bytes)")], "too long",
+            problems)
+    for lines, number in (
+        (["category kind 1"] + [ENTRY] * 600, 66),
+        (["category kind 1"] * 3000, 17),
+        ([ENTRY] * 100 + [QUOTE] * 400, 65),
+        ([ENTRY] * 20 + [QUOTE] * 400 + [ENTRY] * 45, 277),
+    ):
+        problems = pack.packed("\n".join(lines))[1]
+        check([problem.number for problem in problems] == [number],
+              "the first past its limit", problems)
     # However many there are, they are told once, among other bad lines.
     problems = pack.packed("\n".join(["zzz"] + fits + [QUOTE] * 60
                                      + ["zzz"]))[1]
-    check([problem.number for problem in problems] == [1, 346, 406],
+    check([problem.number for problem in problems] == [1, 258, 406],
           "told once", problems)
     check("16 categories, 64 entries and 256 elements and quotes; here are 4, "
           "0 and 400" in problems[1].expected, "the limit", problems[1])
@@ -366,11 +421,12 @@ def commands():
     check(run(text=b"\xef\xbb\xbfcategory kind 1 # \xff\r\n")
           == (0, file_of([(1, 0)]), ""), "a marked text")
     status, data, message = run(text=b"category kind 1\nentry\n")
-    check((status, data) == (1, b"") and message.startswith("line 2: missing"),
-          "a bad line", message)
+    check((status, data) == (1, b"") and message.startswith("line 2: missing")
+          and message.endswith("\nno file is written\n"), "a bad line", message)
     status, data, message = run(text=b"\x1b[1m\xff" * 200 + b"\nwhat?" * 14)
     check((status, data) == (1, b"") and "and 5 more bad lines" in message
-          and "`?[1m" in message and "\x1b" not in message, "many", message)
+          and "`<U+001B>[1m" in message and "\x1b" not in message, "many",
+          message)
     status, data, message = run(os.path.join(EXAMPLES, "none.txt"))
     check((status, data) == (1, b"") and "cannot be read" in message,
           "no such text", message)
@@ -460,7 +516,9 @@ notes()
 names()
 refused_by_the_ledger()
 numbers()
+no_numbers()
 bad_lines()
+bad_fields()
 calls_in_a_text()
 widths()
 too_many_bytes()

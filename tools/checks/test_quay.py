@@ -24,7 +24,8 @@ from checks.checking import Checks
 from checks.quay_runs import (
     BOARD, CALCULATED, CLASS, DOCUMENT, EXAMPLES, ROOT, VOYAGE, calculated,
     run, stored, tells_difference)
-from command import amounts, explaining, main, playing, programs, refusals
+from command import (
+    amounts, explaining, main, playing, programs, refusals, sheets)
 from command.fields import Wrong
 from command.ledger import loaded
 from command.programs import Programs, Unavailable
@@ -74,7 +75,9 @@ def plain_sheets():
     for command, ending in ((("sheet", "-"), "no sheet is printed"),
                             (("explain", "-", "7"), "nothing is explained")):
         check(run(*command, text=b"# nothing") == (
-            1, "", "note: there is no record in this text\n%s\n" % ending),
+            1, "", "there is no record in this text\n    expected a line that "
+            "begins with category, entry, element, quote or name; "
+            "docs/BOOKS.md tells how they are written\n%s\n" % ending),
             "no record", command)
     heading = DOCUMENT_SHEET.splitlines(True)[0]
     check(run("sheet", "-", text=b"category kind hub") == (
@@ -84,9 +87,10 @@ def plain_sheets():
 
 NAMED = b"""\
 name 7 Harbour Mills
+name 6 No One
 name 5 Nobody
 category kind freight close
-category kind both
+category kind both close 0
 category kind hub
 entry category 1 group all quantity 7 operation 1 provision 100_000_000
 element category 1 chain 7 code ambient amount 1 distance 1
@@ -96,18 +100,19 @@ element category 2 chain 7 code chilled amount 2 distance 1
 element category 3 chain 9999 code ambient amount 2 distance 0
 """
 WAITING = """\
-category 2 (line 4) is not closed, so these wait for it and have no \
+category 2 (line 5) is not closed, so these wait for it and have no \
 emissions of it yet:
     chain 7 (Harbour Mills): 2 of its 3 elements
-    when all its entries are written, put `close` on line 4 and print the \
-sheet again
-category 3 (line 5) is not closed, so these wait for it and have no \
+    when all its entries are written, make `close 0` on line 5 `close` and \
+print the sheet again
+category 3 (line 6) is not closed, so these wait for it and have no \
 emissions of it yet:
     chain 9999: 1 of its 1 element
-    when all its entries are written, put `close` on line 5 and print the \
+    when all its entries are written, put `close` on line 6 and print the \
 sheet again
 """
-UNUSED = "chain 5 (Nobody) is named and has no element\n"
+UNUSED = ("chain 5 (Nobody) is named and has no element\n"
+          "chain 6 (No One) is named and has no element\n")
 
 ODD = b"""\
 category kind freight close
@@ -160,8 +165,13 @@ def long_numbers():
     quotes = ["quote chain %d mass 1_000_000_000 distance 10_000_000 operation "
               "20_000 provision 0" % chain for chain in (1, 2)]
     small = "quote chain 1 mass 1 distance 1 operation 0 provision 1000"
+    fifteen = "quote chain 1 mass 9_999_999 distance 10_000_010 operation %d " \
+              "provision 0"
     for lines, told in (
         (quotes, ""),
+        # 100_000_089_999_900 has 13 digits before its zeros, and
+        # 999_000_899_099_001 has 15.
+        ([fifteen % 1000], ""), ([fifteen % 9990], ""),
         (quotes[:1] + [small], "a spreadsheet keeps 15 digits of a number; 1 "
                                "number here has more\n"),
         (quotes[:1] + [small, small.replace("operation 0", "operation 1000")],
@@ -208,19 +218,32 @@ def bad_texts():
     check((status, output) == (1, "") and told.startswith(
         "line 2: no record is called `zzz`\n    zzz\n")
         and told.endswith("\nno sheet is printed\n"), "a bad line", told)
-    status, output, told = run("sheet", os.path.join(EXAMPLES, "none.txt"))
-    check((status, output) == (1, "") and "none.txt cannot be read: No such "
-          "file or directory" in told, "no text", told)
-    check(run("sheet", "-", text=b"PK\x03\x04")[:2] == (1, ""), "no text")
+    for words, ending in (
+        (("sheet", "%s"), "no sheet is printed"),
+        (("explain", "%s", "7"), "nothing is explained"),
+        (("play", "%s"), "nothing is played"),
+    ):
+        path = os.path.join(EXAMPLES, "none.txt")
+        check(run(*[word.replace("%s", path) for word in words]) == (
+            2, "", "%s cannot be read: No such file or directory\n%s\n"
+            % (path, ending)), "no file", words)
+        check(run(*[word.replace("%s", "-") for word in words],
+                  text=b"%PDF-1.4") == (1, "", "standard input cannot be read: "
+              "it is a PDF; a book is plain text\n%s\n" % ending), "no text",
+              words)
     check(run("sheet", "-", text=b"\x7fELF\0\n") == (
         1, "", "- is no text; save it as plain text, in UTF-8\nno sheet is "
         "printed\n"), "a program")
     status, output, told = run("explain", "-", "7", text=b"zzz")
     check((status, output) == (1, "") and told.endswith(
         "\nnothing is explained\n"), "a bad line", told)
+    check(run("play", text=b"\x7fELF\0\n") == (
+        1, "", "standard input is no text; save it as plain text, in UTF-8\n"
+        "nothing is played\n"), "a program")
     status, output, told = run("sheet", "no\x1bne\0")
-    check((status, output, told) == (1, "", "no?ne? is no name of a file\n"),
-          "no name", told)
+    check((status, output, told) == (
+        2, "", "no<U+001B>ne<U+0000> is no name of a file\nno sheet is "
+        "printed\n"), "no name", told)
     status, output, told = run("sheet", "-", text=b"zzz\n" * 11)
     check(told.endswith("\nand 1 more bad line\nno sheet is printed\n"),
           "many", told)
@@ -257,8 +280,8 @@ def steering_signs():
         (("play",), "save %s/%s" % (sign, sign)), (("play", sign), ""),
     ):
         found = "".join(run(*words, text=text.encode())[1:])
-        check("\x1b" not in found and "?[1mx" in found, "a sign", words, text,
-              found)
+        check("\x1b" not in found and "<U+001B>[1mx" in found, "a sign", words,
+              text, found)
     check(pack.shown("x" * 120) == "x" * 120
           and pack.shown("x" * 121) == "x" * 120 + " ...", "a long text")
 
@@ -283,8 +306,9 @@ def explanations():
     for word, chain in (("4", 4), ("7", 7), ("0,007", 7),
                         ("Harbour Mills", 7), ("harbour  mills", 7),
                         ("COASTAL DAIRIES", 4)):
-        found = run("explain", DOCUMENT, word)
-        check(found == (0, lines[chain], ""), "explained", word, found)
+        for words in ((word,), (" %s " % word,), word.split()):
+            found = run("explain", DOCUMENT, *words)
+            check(found == (0, lines[chain], ""), "explained", words, found)
     twice = stored("examples", "document.txt").replace("Coastal Dairies", "7")
     check(run("explain", "-", "7", text=twice.encode())[:2] == (0, lines[7]),
           "a number comes before a name")
@@ -299,10 +323,11 @@ def explanations():
                                  "and 7: give a number"),
         ("x", "quote chain 1 mass 1 distance 1 operation 1 provision 1",
          "no chain of this book has the name `x`"),
-        ("x", "category kind 1\n" + "\n".join("name %d a%d" % (chain, chain)
-                                               for chain in range(1, 22)),
-         "no chain of this book has the name `x`; it has %s, ..."
-         % ", ".join("a%d" % chain for chain in range(1, 21))),
+        *(("x", "category kind 1\n" + "\n".join(
+            "name %d a%d" % (chain, chain) for chain in range(1, 1 + count)),
+           "no chain of this book has the name `x`; it has %s%s"
+           % (", ".join("a%d" % chain for chain in range(1, 21)), more))
+          for count, more in ((20, ""), (21, ", ..."))),
     ):
         found = run("explain", "-" if text else DOCUMENT, word,
                     text=text.encode())
@@ -389,6 +414,8 @@ def accepted_calls():
              "kg over 20 m; operation 3_000 µg (0.000000003 t), provision "
              "2_000 µg (0.000000002 t)\n    all is handed out: operation "
              "3_000 µg (0.000000003 t), provision 2_000 µg (0.000000002 t)")
+    check(len(answers("open 1", *[ENROL] * 10, "close 1")[-1]) == 12,
+          "a closing of ten elements")
     closed = answers("open 1", *[ENROL] * 13, "close 1")[-1]
     check(len(closed) == 13 and closed[-2:] == [
         "    and 3 more: see `show`",
@@ -456,10 +483,11 @@ def saves():
             ("close 1", None), ("show", None), ("statement 7", None),
             ("save '%s' # here" % path,
              "saved 3 lines: `quay play` plays it again, from this folder"),
-            ("save " + path, "not saved as %s: File exists" % path),
+            ("save " + path, "not saved: %s is there already, and no file is "
+             "written over; choose another name" % path),
             ("save %s/none/x" % folder, "not saved as %s/none/x: No such file "
              "or directory" % folder),
-            ("save a\0b", "not saved as a?b: no name of a file"),
+            ("save a\0b", "not saved as a<U+0000>b: no name of a file"),
         ):
             found = session.answer(playing.request_of(line))
             check(told is None or found == [told], "saved", line, found)
@@ -469,6 +497,13 @@ def saves():
         check(run("play", path)[0] == 0, "it is played")
         again = ("save " + path).encode()
         check(run("play", text=again)[0] == 2, "not saved again")
+        # A book beside the list is saved by the path where it is.
+        with open(os.path.join(folder, "beside.txt"), "w") as file:
+            file.write("category kind 3")
+        session = playing.Session(CALCULATED)
+        session.answer(playing.request_of("load beside.txt # it", folder))
+        check(session.lines == ["load %s/beside.txt" % folder],
+              "a book beside the list", session.lines)
         # A load that stops has changed the book, so it is saved.
         book_path = os.path.join(folder, "refused.txt")
         with open(book_path, "w", encoding="utf-8") as file:
@@ -489,7 +524,10 @@ def loads():
           == "chain 4 (Coastal Dairies): 1 element, none waiting", "a name")
     check(answers("name 9 Old", "load " + DOCUMENT, "statement 9")[-1][0]
           == "chain 9: no element is on it", "names are of a book")
-    # Where the command is run, and beside the list.
+
+
+def places_of_books():
+    """Where the command is run, and beside the list."""
     with tempfile.TemporaryDirectory() as folder:
         for name, text in (("document.txt", "category kind 4"),
                            ("a#b  c.txt", "category kind 3")):
@@ -497,8 +535,10 @@ def loads():
                 file.write(text)
         for line in ("load a#b  c.txt", "load  'a#b  c.txt' # both",
                      "LOAD \"a#b  c.txt\""):
-            path, text = playing.request_of(line, folder).given
-            check(text.tables[0] == [(3, 0)], "a path", line, path)
+            request = playing.request_of(line, folder)
+            check(request.given[1].tables[0] == [(3, 0)] and request.saved
+                  == "load " + os.path.join(folder, "a#b  c.txt"), "a path",
+                  line, request)
         before = os.getcwd()
         for here, kind in ((EXAMPLES, (1, 1)), (ROOT, (4, 0))):
             os.chdir(here)
@@ -509,22 +549,25 @@ def loads():
             file.write("load a#b  c.txt\nshow")
         check(run("play", os.path.join(folder, "list.txt"))[1].endswith(
             "\ncategory 1: freight and passengers, open\n"), "beside a list")
-    check(answers("load " + VOYAGE, "show")[0] == ["loaded %s: 6 categories (5 "
+
+
+def told_of_loads():
+    check(answers("load " + VOYAGE)[0] == ["loaded %s: 6 categories (5 "
           "closed), 18 entries and 39 elements" % VOYAGE], "a voyage",
           answers("load " + VOYAGE)[0])
     noted = playing.Request("load", ("n.txt", pack.Text(
-        "category kind 1 # a\rcategory kind 2\n")), "")
+        "category kind 1 # a\rcategory kind 2\n")), "", "")
     check(playing.Session(CALCULATED).answer(noted) == [
         "note: line 1 has a carriage return inside, which is no line end in "
         "this text", "loaded n.txt: 1 category (0 closed), 0 entries and 0 "
         "elements"], "a note")
     text = pack.Text(REFUSED_TEXT)
     session = playing.Session(CALCULATED)
-    lines = session.answer(playing.Request("load", ("b.txt", text), ""))
-    check(lines[0] == "stopped at b.txt, line 20: element 2: passengers in a "
-          "freight category (refused 6)" and lines[-1] == "    a load begins a "
-          "book anew, and this one has the records before that: 1 category (0 "
-          "closed), 1 entry and 1 element"
+    lines = session.answer(playing.Request("load", ("b.txt", text), "", ""))
+    first, *others = REFUSED_TOLD.splitlines()[:-1]
+    check(lines == ["stopped at b.txt, " + first, *others, "    a load begins "
+                    "a book anew, and this one has the records before that: 1 "
+                    "category (0 closed), 1 entry and 1 element"]
           and session.refused == 1, "a stopped load", lines)
 
 
@@ -559,7 +602,9 @@ def bad_lines():
              "a call is `strike 2`")
     bad_line("statement Mills", "`Mills` after `chain` is not a whole number",
              "`chain` is a number from 1 to 10,000", "a call is `statement 7`")
-    bad_line("intensity 1 ferry", "`ferry` after `code`", "ambient (0)")
+    bad_line("intensity 1 ferry", "`ferry` after `code`", "expected ambient "
+             "(0), chilled (1), frozen (2) or lowest (100); a call is "
+             "`intensity 1 ambient`")
     bad_line("close 1 category 1", "`category` stands twice")
     bad_line("post 1 all 5 5 5", "`1` has no word before it",
              "post with category, group, quantity")
@@ -575,7 +620,10 @@ def bad_lines():
              "BOOK.txt CHAIN`")
     bad_line("reopen 1", "no call is `reopen`", "a closed category stays "
              "closed")
-    bad_line("undo", "no call is `undo`", "`strike` strikes an entry")
+    for word in ("undo", "unstrike", "delete", "remove"):
+        bad_line(word + " 1", "no call is `%s`" % word, "nothing is taken "
+                 "back; `strike` strikes an entry, once and for good, and "
+                 "`fresh` or `load` begins again")
     bad_line("name 7", "a chain's number or its name is missing")
     bad_line("help me", "no help for `me`", "one of open, post")
     bad_line("help post open", "no help for `post open`")
@@ -586,22 +634,134 @@ def bad_files():
     bad_line("load", "no file after `load`", "`load examples/voyage.txt`")
     bad_line("load # none", "no file after `load`")
     bad_line("save", "no file after `save`", "`save class.txt`")
-    bad_line("load a\0b", "a?b is no name of a file")
-    bad_line("load none.txt", "none.txt cannot be read: No such file")
+    bad_line("load a\0b", "a<U+0000>b is no name of a file")
+    bad_line("load none.txt", "none.txt cannot be read: No such file",
+             "expected the path of a book's text, from where you are")
+    try:
+        playing.request_of("load none.txt", "somewhere")
+    except Wrong as wrong:
+        check(wrong.args == ("none.txt cannot be read: No such file or "
+                             "directory", "expected the path of a book's text, "
+                             "from where you are or from the list's folder"),
+              "no book", wrong)
     bad_line("load " + CLASS, "class.txt, line 5: no record is called `open`",
-             "has `category` for it; `quay sheet` tells all of its bad lines")
+             "has `category` for it; `quay sheet` tells more of its bad lines")
     with tempfile.NamedTemporaryFile() as file:
-        bad_line("load " + file.name, "%s has no record" % file.name)
-        file.write(b"zzz")
-        file.flush()
-        bad_line("load " + file.name, "%s, line 1: no record is called `zzz`"
-                 % file.name)
+        bad_line("load " + file.name, "%s has no record" % file.name,
+                 "expected the path of a book's text")
+        for data, what, expected in (
+            (b"zzz", "%s, line 1: no record is called `zzz`", "expected a line"),
+            (b"\x7fELF\0\n", "%s is no text; save it as plain text",
+             "expected a book's text"),
+        ):
+            file.write(data)
+            file.flush()
+            bad_line("load " + file.name, what % file.name, expected)
+
+
+HELP = """\
+open       opens a category: freight, passengers, both or hub
+post       posts an entry of emissions to a category
+strike     strikes an entry, by its number
+enrol      enrols freight or passengers of a chain in a category
+quote      quotes a leg of another carrier, in no category
+close      closes a category: its elements get their shares
+statement  shows what a chain is charged with
+intensity  shows the intensity of a closed category, for ambient, chilled, \
+frozen or lowest (class)
+fresh      begins an empty book
+load       begins a book from its text
+show       shows every record of the book
+sheet      shows what every chain is charged with, in tonnes
+name       names a chain
+save       saves the accepted lines as a list
+help       shows this, or more of one word
+quit       ends
+`help post` shows how a post is written, and so on
+how a share came about, `quay explain` shows of a book's text, outside of this
+"""
+HELP_ON = {
+    "strike": """\
+strike: strikes an entry, by its number
+    strike 2
+    an entry is struck once and stays struck; its number is not given again
+    expected strike with entry
+""",
+    "close": """\
+close: closes a category: its elements get their shares
+    close 1
+    it stays closed, and takes no more entries, elements or strikes
+    expected close with category
+    category is a number, from 1 on in their order
+""",
+    "enrol": """\
+enrol: enrols freight or passengers of a chain in a category
+    enrol category 1 chain 7 code ambient amount 1_000 distance 300_000
+    expected enrol with category, chain, code, amount and distance
+    category is a number, from 1 on in their order
+    chain is a number from 1 to 10,000, also where `name` gives it a name
+    code is for passengers their class in hundredths of the lowest, 100 to 1000
+    code is a number or a word: ambient (0), chilled (1), frozen (2) or lowest \
+(100)
+    amount is in kg, or heads for passengers
+    distance is in m, and 0 in a hub
+""",
+    "quote": """\
+quote: quotes a leg of another carrier, in no category
+    quote chain 7 mass 1_000 distance 500_000 operation 62_000 provision 10_000
+    expected quote with chain, mass, distance, operation and provision; it may \
+have adjust
+    chain is a number from 1 to 10,000, also where `name` gives it a name
+    adjust is for an air leg: its emissions are of 95 km more
+    mass is in kg
+    distance is in m
+    operation is in mg CO2e per tonne-km
+    provision is in mg CO2e per tonne-km
+""",
+    "intensity": """\
+intensity: shows the intensity of a closed category, for ambient, chilled, \
+frozen or lowest (class)
+    intensity 1 ambient
+    it is in whole mg: what benefits all and what benefits the group are \
+rounded apart, halves up, and then added
+    expected intensity with category and code
+    category is a number, from 1 on in their order
+    code is a number or a word: ambient (0), chilled (1), frozen (2) or lowest \
+(100)
+""",
+    "load": """\
+load: begins a book from its text
+    load examples/voyage.txt
+    the book so far is left, also where the load stops at a record
+""",
+    "save": """\
+save: saves the accepted lines as a list
+    save class.txt
+    no file is written over
+""",
+    "post": """\
+post: posts an entry of emissions to a category
+    post category 1 group all quantity 12_000_000 operation 3_220_000 provision \
+560_000
+    expected post with category, group, quantity, operation and provision
+    category is a number, from 1 on in their order
+    group is a number or a word: all (0), chilled (1) or frozen (2)
+    quantity is in thousandths of a unit, of a kg for example
+    operation is in mg CO2e per unit
+    provision is in mg CO2e per unit
+""",
+}
 
 
 def helps():
     words = answers("help")[0]
+    check(words == HELP.splitlines(), "every word", words)
     check([line.split()[0] for line in words[:-2]]
           == [*playing.CALLS, *playing.OTHERS], "every word", words)
+    for word, wanted in HELP_ON.items():
+        check(answers("help " + word)[0] == wanted.splitlines(), "help", word,
+              answers("help " + word)[0])
+    check(set(playing.MORE) <= set(HELP_ON), "what else is worth knowing")
     check(answers("?")[0] == words and answers("Help Post") == answers(
         "help post"), "other words for it")
     for word in (*playing.CALLS, *playing.OTHERS):
@@ -609,17 +769,20 @@ def helps():
         check(lines[0].startswith(word + ": "), "help", lines)
         check(word == "load" or playing.request_of(lines[1]).word == word,
               "its example", lines)
-    for line in ("quantity is in thousandths of a unit, of a kg for example",
-                 "group is a number or a word: all (0), chilled (1) or frozen "
-                 "(2)"):
-        check("    " + line in answers("help post")[0], "a field", line)
 
 
 def lists():
-    text = b"# a \x1blist\n\n  open 1 # freight\nshow\nquit\nshow\n"
-    check(run("play", text=text) == (0, "# a ?list\n\n> open 1 # freight\n"
-          "category 1: freight, open\n> show\ncategory 1: freight, open\n"
-          "> quit\n", ""), "a list", run("play", text=text))
+    text = b"# a \x1blist\n\n  open 1 # freight\n> show\nquit\nshow\n"
+    check(run("play", text=text) == (0, "# a <U+001B>list\n\n> open 1 # "
+          "freight\ncategory 1: freight, open\n> show\ncategory 1: freight, "
+          "open\n> quit\n", ""), "a list", run("play", text=text))
+    # A comma between thousands is told of, as in a book's text.
+    text = QUOTE.replace("operation 6", "operation 1,006") + " # 1,000"
+    lines = answers(text)[0]
+    check(lines[0] == "note: `1,006` is read as 1006, since a comma stands "
+          "between thousands here and never before decimals"
+          and lines[1].startswith("element 1: quoted") and len(lines) == 3,
+          "a comma", lines)
     check(run("play", "-", text=b"close 1\n")[0] == 3, "a refused call")
     check(run("play", text=b"# none\n") == (
         1, "", "there is no call in this list\nnothing is played\n"), "no call")
@@ -725,15 +888,16 @@ def differences():
     row = b"7 3 2 2 233333333 233333335"
     for old, new, what in (
         (b"chain elements", b"chains elements", "quaymeter says `chains"),
-        (row, b"7 3 1 2 233333333 233333335", "chain 7: the program says 3 1 2 "
-         "233333333 233333335, and its element records add up to 3 2 2 "),
-        (row, b"7 4 2 2 233333333 233333335", "chain 7: the program says 4 2"),
-        (row, b"7 3 2 3 233333333 233333335", "the program says 3 2 3"),
-        (row, b"7 3 2 2 233333333 233333336", "the program says 3 2 2"),
-        (row, b"7 3 2 2 233333333", "the program says 3 2 2 233333333, and"),
+        *((row, wrong, "quaymeter prints `%s`, and replay states `%s`"
+           % (wrong.decode(), row.decode())) for wrong in (
+               b"7 3 1 2 233333333 233333335", b"7 4 2 2 233333333 233333335",
+               b"7 3 2 3 233333333 233333335", b"7 3 2 2 233333334 233333335",
+               b"7 3 2 2 233333333 233333336", b"8 3 2 2 233333333 233333335",
+               b"7 3 2 2 233333333", b"7 3 2 2 233333333 233333335 0", b"")),
         (row, b"7 3 2 2 x", "a program prints `7 3 2 2 x`"),
-        (row + b"\n", b"", "lines for the chains 12 9999, and the book for 7"),
-        (row, b"", "lines for the chains 0 12 9999, and the book for 7 12"),
+        (row + b"\n", b"", "the sheet has 2 lines, and the book 3 chains"),
+        (row + b"\n", b"7 1\n7 2\n", "the sheet has 4 lines, and the book 3 "
+         "chains"),
         (DOCUMENT_SHEET.encode()[:5], b"refused 3 1 1\nchain",
          "quaymeter says `refused 3 1 1`, and replay `0 0 0`"),
         (b"chain elements", b"refused x y", "a program prints `x y"),
@@ -759,15 +923,27 @@ def differences():
 
 def differences_of_answers():
     """Programs that answer a call otherwise, from the fourth record on."""
-    lines = ("open 1", ENROL, "statement 7", "close 1")
+    lines = ("open 1", ENROL, "statement 7", "sheet", "close 1")
+    stated = b"\n0 1 1 0 0 0\n"
     for old, new, what in (
-        (b"\n0 1 1 0 0 0\n", b"\n0 1 0 0 0 0\n", "chain 7: the program says 1 "
-         "0 0 0 0, and its element records add up to 1 1 0 0 0"),
+        *((stated, b"\n%s\n" % wrong, "replay answers `%s` to `statement 7`, "
+           "and `0 1 1 0 0 0` is reckoned here" % wrong.decode()) for wrong in (
+               b"0 1 0 0 0 0", b"0 1 1 0 0", b"0 1 1 0 0 0 0", b"0 1 1 0 1 1",
+               b"3 0 0 0 0 0", b"14 1 1 0 0 0")),
         (b"\n0 1\n", b"\n0 2\n", "replay answers the same calls in another"),
-        (b"\n0 1 1 0 0 0\n", b"\n", "replay answers the same calls in another"),
-        (b"\n0 1 1 0 0 0\n", b"\n0 1 1 0 0 x\n", "a program prints `0 1 1 0 0 "
-                                                  "x`"),
-        (b"14083 1 0 1 ", b"14083 1 0 ", "replay shows 2403 words"),
+        (stated, b"\n", "replay answers the same calls in another"),
+        (stated, b"\n0 1 1 0 0 x\n", "a program prints `0 1 1 0 0 x`"),
+        (stated + b"14083 1 0 1 1 0 ", stated + b"14083 1 0 1 ",
+         "replay shows 2402 words"),
+        (stated + b"14083 1 0 1 1 0 ", stated + b"14083 1 0 1 2 0 ",
+         "after `statement 7` replay shows 2 in the book's category 1, kind, "
+         "and 1 is reckoned here"),
+        (stated + b"14083 1 0 1 ", stated + b"14083 1 0 9 ",
+         "after `statement 7` replay shows 9 in the book's word 3, and 1 is "
+         "reckoned here"),
+        # The statement of the sheet, behind the one that was asked for.
+        (stated + stated[1:], stated + b"0 1 0 0 0 0\n", "replay answers `0 1 "
+         "0 0 0 0` to `statement 7`"),
     ):
         replay = calculated().replay
         session = playing.Session(Programs(
@@ -777,16 +953,31 @@ def differences_of_answers():
             session.answer(playing.request_of(line)) for line in lines])
     tells_difference(check, "in another way, with ``", playing.Session,
                      Programs(None, lambda data: b""))
-    # Shares that do not add up to the entries.
-    session = playing.Session(CALCULATED)
-    for line in ("open 1", POST, ENROL, "close 1"):
-        session.answer(playing.request_of(line))
-    words = list(session.ledger.words)
-    for amount in ("operation", "provision"):
-        words[book.word(book.ELEMENTS, 1, amount)] += 1
-        tells_difference(check, "the shares of %s add up to" % amount,
-                         playing.handed_out, book.Book(words), 1)
-        words[book.word(book.ELEMENTS, 1, amount)] -= 1
+
+
+def differences_of_calls():
+    """Answers of loads, openings and intensities; and who waits."""
+    for lines, old, new, what in (
+        (("load " + DOCUMENT,), b"\n0 0 0\n", b"\n0 0\n", "`0 0` to `load`"),
+        (("load " + DOCUMENT,), b"\n0 0 0\n", b"\n3 1 1\n", "answers `3 1 1` "
+         "to `load`, and `0 0 0` is reckoned here"),
+        (("open 1",), b"\n0 1\n", b"\n0 9\n", "`0 9` to `open 1`, and `0 1`"),
+        (("open 1",), b"\n0 1\n", b"\n0\n", "`0` to `open 1`, and `0 1`"),
+        (("open 1",), b"\n0 1\n", b"\n\n", "`` to `open 1`, and `0 1`"),
+        (("open 9",), b"\n3 0\n", b"\n14 0\n", "`14 0` to `open 9`, and `3 0`"),
+        (("open 1", POST, ENROL, "close 1", "intensity 1 0"),
+         b"\n0 15000 10000\n", b"\n0 15000\n", "`0 15000` to `intensity 1 0`"),
+    ):
+        replay = calculated().replay
+        session = playing.Session(Programs(
+            None, lambda data: replay(data).replace(old, new)))
+        lines = [line.replace("group 1", "group 0") for line in lines]
+        tells_difference(check, what, lambda: [
+            session.answer(playing.request_of(line)) for line in lines])
+    tells_difference(
+        check, "chain 7: the program says that 2 wait, and 1 are found here",
+        sheets.compare_waiting, [sheets.Row(7, 2, 2, 0, 0, 0)],
+        [{7: 1}, {7: 0}])
 
 
 # Outputs that cannot be written.
@@ -848,10 +1039,34 @@ def help_texts():
     status, output, told = run("--help")
     check((status, told) == (0, "") and "quay play" in output
           and "10^12 µg are 1 t" in output, "help")
-    for command in ("sheet", "play", "explain"):
+    for phrase in ("the sheet of a book", "calls and their answers",
+                   "how a chain's shares came about"):
+        check(phrase in output, "help", phrase)
+    book_path = "a book's text; - for standard input"
+    for command, *phrases in (
+        ("sheet", "Packs a book's text, runs `quaymeter` and prints its sheet "
+         "as it is", "`name 7 Harbour Mills` in the text names chain 7",
+         book_path, "a table in tonnes, exact, with chains' names",
+         "comma-separated, for a spreadsheet"),
+        ("play", "Plays calls in words, one a line, from a list or typed at a "
+         "prompt", "a refused call changes nothing and can be tried again",
+         "a list of calls; without it they are typed"),
+        ("explain", "Shows how a chain's shares came about, element by element",
+         "Each result is compared with that of the proved program",
+         book_path, "a chain's number, or its name in the text"),
+    ):
         status, output, told = run(command, "--help")
-        check((status, told) == (0, "") and "Exit status: 0 done" in output,
-              "help", command)
+        check((status, told) == (0, ""), "help", command)
+        output = " ".join(output.split())
+        for phrase in (*phrases, "Exit status: 0 done; 1 the text is bad; 2 it "
+                       "cannot be done", "3 the ledger refuses"):
+            check(phrase in output, "help", command, phrase)
+        # What is not understood is told by the command that it was meant for.
+        words = (command, DOCUMENT, "7")[:3 if command == "explain" else 2]
+        status, output, told = run(*words, "--tons")
+        check((status, output) == (2, "") and told.startswith(
+            "usage: quay %s " % command) and told.endswith(
+            "error: not understood: --tons\n"), "not understood", told)
     check(run()[0] == 2 and "quay sheet" in run()[1], "no command")
     check(run("help") == run("--help"), "help as a word")
     check(run("shet", DOCUMENT)[0] == 2, "no such command")
@@ -895,6 +1110,8 @@ looking()
 whole_sheets()
 saves()
 loads()
+places_of_books()
+told_of_loads()
 bad_lines()
 bad_files()
 helps()
@@ -904,6 +1121,7 @@ prompts()
 unavailable()
 differences()
 differences_of_answers()
+differences_of_calls()
 outputs()
 help_texts()
 documents()

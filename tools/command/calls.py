@@ -2,14 +2,13 @@
 
 from collections import namedtuple
 
-from calculation import player
 from command.fields import (
     CATEGORY, CHAIN, Wrong, given_numbers, meant, needed, record_numbers, shown)
 from pack import RECORD_OF_CALL, RECORDS
 
-# A call: its operation in `replay`, its fields in the order of its arguments,
-# the fields that may stand without their words, and an example.
-Form = namedtuple("Form", "operation fields bare example")
+# A call: its fields in the order of its arguments, the fields that may stand
+# without their words, and an example.
+Form = namedtuple("Form", "fields bare example")
 
 
 def fields_of(record, *words):
@@ -19,30 +18,27 @@ def fields_of(record, *words):
 
 
 CALLS = {
-    "open": Form(
-        player.OPEN, fields_of("category", "kind"), ("kind",),
-        "open freight"),
+    "open": Form(fields_of("category", "kind"), ("kind",), "open freight"),
     "post": Form(
-        player.POST, RECORDS["entry"].fields, (),
+        RECORDS["entry"].fields, (),
         "post category 1 group all quantity 12_000_000 operation 3_220_000 "
         "provision 560_000"),
-    "strike": Form(player.STRIKE, (needed("entry"),), ("entry",), "strike 2"),
+    "strike": Form((needed("entry"),), ("entry",), "strike 2"),
     "enrol": Form(
-        player.ENROL, fields_of("element", "category", "chain", "code",
-                                "amount", "distance"), (),
+        fields_of("element", "category", "chain", "code", "amount",
+                  "distance"), (),
         "enrol category 1 chain 7 code ambient amount 1_000 distance "
         "300_000"),
     "quote": Form(
-        player.QUOTE, fields_of("quote", "chain", "adjust", "mass",
-                                "distance", "operation", "provision"), (),
+        fields_of("quote", "chain", "adjust", "mass", "distance", "operation",
+                  "provision"), (),
         "quote chain 7 mass 1_000 distance 500_000 operation 62_000 "
         "provision 10_000"),
-    "close": Form(player.CLOSE, (CATEGORY,), ("category",), "close 1"),
-    "statement": Form(player.STATEMENT, (CHAIN,), ("chain",), "statement 7"),
-    "intensity": Form(
-        player.INTENSITY, fields_of("element", "category", "code"),
-        ("category", "code"), "intensity 1 ambient"),
-    "fresh": Form(player.FRESH, (), (), "fresh"),
+    "close": Form((CATEGORY,), ("category",), "close 1"),
+    "statement": Form((CHAIN,), ("chain",), "statement 7"),
+    "intensity": Form((CATEGORY, needed("code")), ("category", "code"),
+                      "intensity 1 ambient"),
+    "fresh": Form((), (), "fresh"),
 }
 
 # What else a line may begin with, and its example.
@@ -63,8 +59,10 @@ ELSEWHERE = {
                "explain BOOK.txt CHAIN`",
     "reopen": "a closed category stays closed; begin again with `fresh` or "
               "`load`, and close it later",
-    "undo": "nothing is taken back; `strike` strikes an entry, and `fresh` or "
-            "`load` begins again",
+    **dict.fromkeys(
+        ("undo", "unstrike", "delete", "remove"),
+        "nothing is taken back; `strike` strikes an entry, once and for good, "
+        "and `fresh` or `load` begins again"),
 }
 
 

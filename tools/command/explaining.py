@@ -1,27 +1,28 @@
 """How the shares of a chain come about, as one would write it on a board.
 
 Records, activities, amounts and shares are those of the book that `replay`
-shows. What is reckoned here to explain them is compared with them, and a
+shows. What is reckoned here to explain them is compared with them: the sums
+that are divided and divided by, each division, each share and their sums. A
 difference is told by the exception Differs.
 """
 
 from fractions import Fraction
 
 from calculation.book import (
-    AIR_DEFAULT, AMOUNTS, FREIGHT_CODES, HUB, PASSENGER_CODES, QUOTED,
-    Category, Element, Entry, activity_of)
-from calculation.calls import entry_amounts
+    AIR_DEFAULT, AMOUNTS, FREIGHT_CODES, GROUPS, HUB, PASSENGER_CODES, QUOTED,
+    total)
 from calculation.closing import COLD_GROUPS, Sums, nearest
 from calculation.dividing import portions_of
 from calculation.sheet import used_chains
 from command.amounts import (
     LEFT, RIGHT, aligned, counted, emissions, grouped, tonnes)
 from command.fields import listed
-from command.ledger import compare_statement, divided
+from command.ledger import divided
 from command.naming import amount_words, carried, group_word, with_name
 from command.programs import Differs
 
 LEAST_TOO_FAR = 3  # µg from the exact share
+KG_PER_HEAD = 100
 
 WIDTH = 102       # signs of a line, where its numbers allow it
 MOST_CHAINS = 12  # that are named where a chain is not there
@@ -33,17 +34,13 @@ POOLS = ("A", "B1", "B2")  # by the group of entries
 NO_ENTRY = ("no entry benefits all", "no entry of the chilled group",
             "no entry of the frozen group")
 
-# The tables of a text: what one record and more are called, and its fields.
-TABLES = (("category", "categories", Category), ("entry", "entries", Entry),
-          ("element", "elements", Element))
-
 # What a letter stands for; it is said where the letter first appears.
 LETTERS = {
     "A": "A, the entries that benefit all,",
     "B1": "B1, the entries of the chilled group,",
     "B2": "B2, the entries of the frozen group,",
     "F": "F, the activity of all its freight,",
-    "P": "P, its passengers as 100 kg each × distance,",
+    "P": "P, its passengers as %d kg each × distance," % KG_PER_HEAD,
     "C": "C, the activity of all its passengers,",
 }
 
@@ -98,27 +95,24 @@ def compare(reckoned, told, what):
                       % (what, grouped(told), grouped(reckoned)))
 
 
-def compare_records(text, book):
-    """The book's records are those of the text's lines, each with the amounts
-    or the activity that its line comes to. A text strikes no entry."""
-    categories, entries, elements = text.tables
-    compare_table(text, 1, book.categories, categories)
-    compare_table(text, 2, book.entries, [
-        (category, group, *entry_amounts(*measures), 0)
-        for category, group, *measures in entries])
-    compare_table(text, 3, book.elements, [
-        (category, chain, code, amount, distance,
-         activity_of(book.kind(category), code, amount, distance))
-        for category, chain, code, _, amount, distance, *_ in elements])
-
-
-def compare_table(text, table, records, expected):
-    name, names, form = TABLES[table - 1]
-    compare(len(expected), len(records), "the number of " + names)
-    for number, pair in enumerate(zip(expected, records), 1):
-        for field, reckoned, told in zip(form._fields, *pair):
-            compare(reckoned, told, "%s %d (line %d), %s" % (
-                name, number, text.line_of(table, number), field))
+def compare_sums(book, category, sums):
+    """What is divided is what the shares of the category add up to, and what
+    it is divided by is the activity of its elements. An activity has the
+    class of the passengers where P has their kg."""
+    elements = book.elements_of(category)
+    for side in AMOUNTS:
+        compare(sum(sums.pool(group, side) for group in GROUPS),
+                total(elements, side),
+                "category %d, its %s entries" % (category, side))
+    freight, passengers = (
+        [element for element in elements if element.code in codes]
+        for codes in (FREIGHT_CODES, PASSENGER_CODES))
+    for letter, reckoned, told in (
+            ("F", sums.F, total(freight, "activity")),
+            ("C", sums.C, total(passengers, "activity")),
+            ("P", sums.P, sum(KG_PER_HEAD * element.activity // element.code
+                              for element in passengers))):
+        compare(reckoned, told, "category %d, %s" % (category, letter))
 
 
 # The board.
@@ -132,7 +126,10 @@ class Board:
         self.ledger = ledger
         self.book = ledger.book
         self.sums = {category: Sums(self.book, category)
-                     for category in self.book.kinds}
+                     for category in self.book.kinds
+                     if self.book.is_closed(category)}
+        for category, sums in self.sums.items():
+            compare_sums(self.book, category, sums)
         self.said = set()
         self.known = {}
 
@@ -203,20 +200,25 @@ def entry_product(board, number, side):
 
 # Divisions.
 
-def quotient_lines(depth, formula, pool, weight, total, portion):
+def quotient_lines(board, depth, formula, pool, weight, total, portion):
     """A pool times a weight by the sum of the weights: a mixed number, and
-    where it does not divide, floor and remainder."""
+    where it does not divide, floor and remainder. The first time the fraction
+    is the remainder's in lowest terms, that is said."""
     exact = "= " + mixed(Fraction(pool * weight, total))
-    ending = ""
+    ending = lowest = ""
     if portion.remainder > 0:
         exact += ":"
         ending = "floor %s, remainder %s" % (grouped(portion.floor),
                                              grouped(portion.remainder))
+        part = Fraction(portion.remainder, total)
+        if part.denominator < total and board.is_new("lowest terms"):
+            lowest = "(%s / %s is %s in lowest terms)" % (
+                grouped(portion.remainder), grouped(total), mixed(part))
     return fitted(depth, formula, "= %s × %s / %s" % (
-        grouped(pool), grouped(weight), grouped(total)), exact, ending)
+        grouped(pool), grouped(weight), grouped(total)), exact, ending, lowest)
 
 
-def parting_lines(sums, side, freight, passengers):
+def parting_lines(board, sums, side, freight, passengers):
     """How A is divided by F and P: the portions of both."""
     pool, total = sums.A(side), sums.F + sums.P
     if freight.remainder == 0:
@@ -228,10 +230,10 @@ def parting_lines(sums, side, freight, passengers):
         ending = ("1 µg is left over; it goes to the %s, whose remainder is "
                   "larger" % ("freight" if freight.unit else "passengers"))
     return (["    A goes to freight and passengers by the weights F and P:"]
-            + quotient_lines(3, "freight: A × F / (F + P)", pool, sums.F,
-                             total, freight)
-            + quotient_lines(3, "passengers: A × P / (F + P)", pool, sums.P,
-                             total, passengers)
+            + quotient_lines(board, 3, "freight: A × F / (F + P)", pool,
+                             sums.F, total, freight)
+            + quotient_lines(board, 3, "passengers: A × P / (F + P)", pool,
+                             sums.P, total, passengers)
             + ["      " + ending]
             + ["      freight part %s, passenger part %s"
                % (grouped(freight.floor + freight.unit),
@@ -288,7 +290,7 @@ def part_of(board, number, codes, pool, formula):
                if element.code in codes}
     portions = dict(zip(members, board.portions(pool, [*members.values()])))
     own = portions[number]
-    lines = quotient_lines(2, formula, pool, members[number],
+    lines = quotient_lines(board, 2, formula, pool, members[number],
                            sum(members.values()), own)
     if own.remainder > 0:
         lines += unit_lines(portions, number)
@@ -313,7 +315,7 @@ def part_of_A(board, number, side):
         own = both[0 if is_freight else 1]
         pool = own.floor + own.unit
         name = "freight part" if is_freight else "passenger part"
-        lines += (parting_lines(sums, side, *both)
+        lines += (parting_lines(board, sums, side, *both)
                   if board.is_new("parts", element.category, side) else
                   ["    the %s is %s, as above" % (name, grouped(pool))])
     elif board.is_new("one kind", element.category):
@@ -438,16 +440,12 @@ def weight_lines(board, number):
 
 
 def waiting_lines(board, number):
-    element = board.element(number)
-    for side in AMOUNTS:
-        compare(0, getattr(element, side), "%s, %s share while it waits" % (
-            board.text.called("element", number), side))
-    place = board.text.called("category", element.category)
-    line = board.text.line_of(1, element.category)
-    return ["  it waits for %s, which is not closed:" % place,
+    category = board.element(number).category
+    return ["  it waits for %s, which is not closed:"
+            % board.text.called("category", category),
             "  it has no share until that category is closed",
-            "  when all its entries are there, write `close` on line %d"
-            % line]
+            "  when all its entries are written, "
+            + board.text.to_close(category)]
 
 
 def quote_lines(board, number):
@@ -511,7 +509,10 @@ def sum_lines(board, ledger, chain, numbers):
                                 for element in elements) for side in AMOUNTS)
     sums = (operation, provision, operation + provision)
     told, = ledger.statements([chain])
-    compare_statement(board.book, chain, told)
+    for what, reckoned, number in zip(
+            ("elements", "waiting", *AMOUNTS, "total"),
+            (len(numbers), len(waiting), *sums), told):
+        compare(reckoned, number, "chain %d, %s" % (chain, what))
     rows = [("µg", *AMOUNTS, "total")]
     for number, element in zip(numbers, elements):
         rows.append((
@@ -544,10 +545,8 @@ def no_chain(words, chain):
 def explanation(text, ledger, chain):
     """The lines that explain the shares of a chain. The ledger is the one
     that the text was loaded into, by an accepted load."""
-    book = ledger.book
-    compare_records(text, book)
-    numbers = [number for number, element in enumerate(book.elements, 1)
-               if element.chain == chain]
+    numbers = [number for number, element
+               in enumerate(ledger.book.elements, 1) if element.chain == chain]
     if not numbers:
         raise no_chain(ledger.words, chain)
     board = Board(text, ledger)

@@ -20,8 +20,8 @@ def needed(word, what=""):
     return Field(word, None, None, what, True)
 
 
-def flag(word, offered=True):
-    return Field(word, 0, 1, "", offered)
+def flag(word, what="", offered=True):
+    return Field(word, 0, 1, what, offered)
 
 
 def must_be_0(word):
@@ -31,7 +31,8 @@ def must_be_0(word):
 
 ALWAYS_0 = Field(None, 0, None, "", False)
 CATEGORY = needed("category", "a number, from 1 on in their order")
-CHAIN = needed("chain", "a number from 1 to 10,000, and `name` gives it a name")
+CHAIN = needed("chain", "a number from 1 to 10,000, also where `name` gives it "
+                        "a name")
 DISTANCE = needed("distance", "in m, and 0 in a hub")
 
 # The words that stand for numbers, by the field.
@@ -39,11 +40,11 @@ KINDS = {"freight": 1, "passengers": 2, "both": 3, "hub": 4}
 GROUPS = {"all": 0, "chilled": 1, "frozen": 2}
 CODES = {"ambient": 0, "chilled": 1, "frozen": 2, "lowest": 100}
 VALUES = {"kind": KINDS, "group": GROUPS, "code": CODES}
-CLASSES = ", or up to 1000, a passenger class in hundredths of the lowest"
 
 # Units that are written behind a number by mistake.
 UNITS = ("kg", "g", "mg", "µg", "ug", "t", "tonne", "tonnes", "km", "m", "l",
-         "litre", "litres", "kwh", "mj", "head", "heads", "tkm")
+         "litre", "litres", "kwh", "mj", "head", "heads", "tkm", "metres",
+         "mile", "miles")
 
 # Words that are written for others of the same meaning.
 ALIKE = {"mass": "amount", "amount": "mass", "weight": "amount",
@@ -51,7 +52,8 @@ ALIKE = {"mass": "amount", "amount": "mass", "weight": "amount",
          "terminal": "hub", "port": "hub", "warehouse": "hub",
          "cargo": "freight", "goods": "freight", "mixed": "both",
          "reefer": "chilled", "cold": "chilled", "cooled": "chilled",
-         "dry": "ambient", "seat": "lowest", "economy": "lowest"}
+         "dry": "ambient", "seat": "lowest", "economy": "lowest",
+         "air": "adjust", "flight": "adjust"}
 MOST_LIKE = 0.75  # from which on two words are alike
 
 
@@ -61,10 +63,16 @@ class Wrong(Exception):
 
 # What is shown of the reader's text.
 
+def printable(text):
+    """A text with the numbers of signs that are not seen or that steer a
+    terminal."""
+    return "".join(sign if sign.isprintable() or sign == "\t"
+                   else "<U+%04X>" % ord(sign) for sign in text)
+
+
 def shown(text):
     """A text of the reader in a message: one line, and not too long."""
-    text = "".join(sign if sign.isprintable() else "?"
-                   for sign in " ".join(text.split()))
+    text = printable(" ".join(text.split()))
     return text if len(text) <= MOST_SIGNS else text[:MOST_SIGNS] + " ..."
 
 
@@ -103,7 +111,22 @@ NO_NUMBERS = (
      "not a whole number: it is written with all its digits"),
     ("(?i)[0-9][0-9_,.]*(%s)" % "|".join(UNITS),
      "not a whole number: a number stands without its unit"),
+    ("[0-9_,]+",
+     "not a whole number as it stands: `_` stands between groups of three "
+     "digits"),
+    ("[+-][0-9_,.]+",
+     "not a whole number as it is written here: it has no sign, and none is "
+     "below 0"),
+    (r"\d+", "not a whole number in the digits 0 to 9"),
 )
+
+
+def as_thousands(line):
+    """How each number of a line is read whose comma may be meant as one before
+    decimals."""
+    return ["`%s` is read as %d, since a comma stands between thousands here "
+            "and never before decimals" % (word, int(word.replace(",", "")))
+            for word in line.split() if ONE_COMMA.fullmatch(word)]
 
 
 def is_like_number(text):
@@ -114,12 +137,13 @@ def is_like_number(text):
 def expected_number(field):
     """What was expected behind the word of a field."""
     words = VALUES.get(field.word)
-    if words:
-        return "expected %s%s" % (numbered(words), CLASSES
-                                  if field.word == "code" else "")
-    if field.what:
-        return EXPECTED_NUMBER + "; `%s` is %s" % (field.word, field.what)
-    return EXPECTED_NUMBER
+    expected = "expected " + numbered(words) if words else EXPECTED_NUMBER
+    return expected + in_words(field)
+
+
+def in_words(field):
+    """What the number of a field is."""
+    return field.what and "; `%s` is %s" % (field.word, field.what)
 
 
 def numbered(words):
@@ -142,8 +166,7 @@ def number_of(text, field, bits=64):
         raise Wrong("the number after `%s` is too large: it does not fit %d "
                     "bits" % (field.word, bits),
                     "expected at most {:,}, and the ledger's own limits are "
-                    "lower{}".format(most, field.what and "; `%s` is %s" % (
-                        field.word, field.what)))
+                    "lower{}".format(most, in_words(field)))
     return int(digits)
 
 
@@ -180,10 +203,13 @@ def why_no_field(name, word, before, known):
     for field in known:
         if word.lower() in VALUES.get(field, ()):
             return alone + "; did you mean `%s %s`?" % (field, word.lower())
-    if before is not None and word.lower() in UNITS:
+    if before is not None and word.lower().rstrip(",.;") in UNITS:
         return ("`%s` is no word here: a number stands without its unit%s"
-                % (shown(word), before.what and "; `%s` is %s" % (
-                    before.word, before.what)))
+                % (shown(word), in_words(before)))
+    field, sign, number = re.fullmatch("([^=:]*)([=:]?)(.*)", word).groups()
+    if sign and field.lower() in known:
+        return "`%s` is no word here; did you mean `%s %s`?" % (
+            shown(word), field.lower(), shown(number) or "..")
     return "`%s` is no word of `%s`" % (shown(word), name) + meant(word, known)
 
 

@@ -1,25 +1,24 @@
 """Books in the proved programs: lists of calls are played by `replay`, whole
-for each answer, and its dump shows the words that they leave.
+for each answer, and its dump shows the words that they leave. Each answer and
+each word is compared with the separate calculation's.
 """
 
-from calculation import calls, player
-from calculation.book import LENGTH, Book
+from calculation import calls, loading, player
+from calculation.book import LENGTH, LISTINGS, Book, size
 from cases.file_writer import load_records
 from command.fields import shown
 from command.programs import Differs
 
-EXAMINED = player.RECORD.pack(player.DUMP, 0, LENGTH, 0, 0, 0, 0, 0)
+OPERATIONS = {name: operation for operation, name in player.CALLS.items()}
 
 
 def call_record(operation, arguments=()):
-    """The record of a call."""
+    """The record of an operation."""
     numbers = (operation, *arguments)
     return player.RECORD.pack(*numbers, *[0] * (8 - len(numbers)))
 
 
-def load_of(data):
-    """The records that load a file."""
-    return b"".join(load_records(data))
+EXAMINED = call_record(player.DUMP, (0, LENGTH))
 
 
 def lines_of(output):
@@ -30,10 +29,14 @@ def lines_of(output):
 def numbers_in(line):
     """The numbers of a printed line."""
     try:
-        return tuple(map(int, line.split()))
+        return list(map(int, line.split()))
     except ValueError:
         raise Differs("a program prints `%s`, where numbers were expected"
                       % shown(line))
+
+
+def in_line(numbers):
+    return " ".join(map(str, numbers))
 
 
 class Ledger:
@@ -44,7 +47,8 @@ class Ledger:
         self.programs = programs
         self.records = b""
         self.answers = []
-        self.call(call_record(player.FRESH))
+        self.words = [0] * LENGTH
+        self.call("fresh", ())
 
     def played(self, further):
         """The lines of further calls, each given by its records, and of the
@@ -59,29 +63,46 @@ class Ledger:
                           "`%s`" % shown(lines[-1] if lines else ""))
         return lines[kept:]
 
-    def call(self, records):
+    def call(self, name, arguments):
         """The numbers that a call answers; it is kept in the list."""
+        return self.kept("%s %s" % (name, in_line(arguments)),
+                         call_record(OPERATIONS[name], arguments),
+                         lambda words: calls.make(name, words, *arguments))
+
+    def load(self, data):
+        """The numbers that loading a file answers; it is kept in the list."""
+        return self.kept("load", b"".join(load_records(data)),
+                         lambda words: loading.load(words, data))
+
+    def kept(self, told, records, reckon):
+        """The numbers that records answer, which are kept in the list; what
+        is reckoned of it answers the same and leaves the same words."""
         answer, dump = self.played([records])
-        words = list(numbers_in(dump))
-        if len(words) != LENGTH:
-            raise Differs("replay shows %d words of a book" % len(words))
+        numbers, words = numbers_in(answer), numbers_in(dump)
+        reckoned_words = list(self.words)
+        compare_answer(told, numbers, reckon(reckoned_words))
+        compare_words(told, words, reckoned_words)
         self.records += records
         self.answers.append(answer)
         self.words = words
         self.book = Book(words)
-        return numbers_in(answer)
+        return numbers
 
     def statements(self, chains):
         """The statements of chains, none of them kept in the list."""
-        *answers, _ = self.played([call_record(player.STATEMENT, (chain,))
-                                   for chain in chains])
-        return [numbers_in(answer)[1:] for answer in answers]
+        *answers, _ = self.played([
+            call_record(player.STATEMENT, (chain,)) for chain in chains])
+        statements = list(map(numbers_in, answers))
+        for chain, numbers in zip(chains, statements):
+            compare_answer("statement %d" % chain, numbers,
+                           calls.make("statement", self.words, chain))
+        return [numbers[1:] for numbers in statements]
 
 
 def loaded(programs, data):
     """The book that loading a file leaves, and the numbers of its answer."""
     ledger = Ledger(programs)
-    return ledger, ledger.call(load_of(data))
+    return ledger, ledger.load(data)
 
 
 def divided(programs, pool, weights):
@@ -97,12 +118,29 @@ def divided(programs, pool, weights):
     return shares
 
 
-def compare_statement(book, chain, told):
-    """A statement is what the chain's element records add up to."""
-    reckoned = calls.statement_of(book, chain)
-    if list(told) != reckoned:
-        raise Differs(
-            "chain %d: the program says %s, and its element records add up to "
-            "%s (elements, waiting, operation, provision, total)" % (
-                chain, *(" ".join(map(str, numbers))
-                         for numbers in (told, reckoned))))
+# Comparisons.
+
+def compare_answer(told, numbers, reckoned):
+    if numbers != list(reckoned):
+        raise Differs("replay answers `%s` to `%s`, and `%s` is reckoned here"
+                      % (in_line(numbers), told.strip(), in_line(reckoned)))
+
+
+def compare_words(told, words, reckoned):
+    if len(words) != len(reckoned):
+        raise Differs("replay shows %d words of a book" % len(words))
+    for place, (word, expected) in enumerate(zip(words, reckoned)):
+        if word != expected:
+            raise Differs("after `%s` replay shows %d in the book's %s, and %d "
+                          "is reckoned here" % (told.strip(), word,
+                                                called(place), expected))
+
+
+def called(place):
+    """What a word of the book is called, by its place."""
+    for listing in reversed(LISTINGS):
+        if place >= listing.start:
+            record, field = divmod(place - listing.start, size(listing))
+            return "%s %d, %s" % (listing.form.__name__.lower(), record + 1,
+                                  listing.form._fields[field])
+    return "word %d" % place

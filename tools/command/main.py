@@ -8,7 +8,8 @@ import pack
 from command import explaining, playing, sheets
 from command.fields import CHAIN, NUMBER, Wrong, listed, number_of, shown
 from command.programs import PROVED, Differs, Unavailable
-from command.texts import Unreadable, carriage_returns, lines_of, read
+from command.texts import (
+    NoFile, Unreadable, carriage_returns, lines_of, read)
 
 MOST_NAMES = 20  # that are told where a chain's name is none of them
 
@@ -16,8 +17,8 @@ MOST_NAMES = 20  # that are told where a chain's name is none of them
 DONE, BAD_TEXT, CANNOT, REFUSED, DIFFERENT = range(5)
 
 ABOUT = """\
-The door to Quaymeter, a proved ledger of transport emissions: every number
-that is shown comes from its proved programs.
+The door to Quaymeter, a proved ledger of transport emissions. Its numbers come
+from the proved programs; what is reckoned to explain them is compared.
 
     quay sheet examples/document.txt             the sheet, in µg CO2e
     quay sheet --tonnes examples/voyage.txt      a table in tonnes
@@ -32,9 +33,9 @@ A book's text is told in docs/BOOKS.md. 10^12 µg are 1 t.
 
 STATUSES = """\
 Exit status: 0 done; 1 the text is bad; 2 it cannot be done: the command is not
-understood, the programs are not built, no such chain, the output cannot be
-written; 3 the ledger refuses (what is typed at the prompt ends with 0);
-4 a program and what is reckoned here differ.
+understood, no such file or chain, the programs are not built, the output
+cannot be written; 3 the ledger refuses (what is typed at the prompt ends with
+0); 4 a program and what is reckoned here differ.
 """
 
 SHEET = """\
@@ -81,12 +82,17 @@ go to, and the sum, for operation and for provision; and how a quote was
 rounded. Each result is compared with that of the proved program.
 """
 
+# What did not come about, by the command.
+ENDINGS = {"sheet": "no sheet is printed", "explain": "nothing is explained",
+           "play": "nothing is played"}
+
 WELCOME = """\
 A fresh book. Type a call, such as `open freight`; `help` tells the words,
 `quit` ends."""
 
 
-def parser():
+def arguments_of(words):
+    """The arguments of the command."""
     form = argparse.RawDescriptionHelpFormatter
     main = argparse.ArgumentParser("quay", description=ABOUT,
                                    epilog=STATUSES, formatter_class=form)
@@ -109,9 +115,16 @@ def parser():
     explain = command("explain", EXPLAIN, "how a chain's shares came about")
     explain.add_argument("book", metavar="BOOK.txt",
                          help="a book's text; - for standard input")
-    explain.add_argument("chain", metavar="CHAIN",
+    explain.add_argument("chain", metavar="CHAIN", nargs="+",
                          help="a chain's number, or its name in the text")
-    return main
+    arguments, more = main.parse_known_args(words)
+    if more:
+        # Told by the command itself, with its own usage.
+        commands.choices.get(arguments.command, main).error(
+            "not understood: %s" % shown(" ".join(more)))
+    if arguments.command is None:
+        main.print_help()
+    return arguments
 
 
 def say(*lines, stream=None):
@@ -137,26 +150,28 @@ def write_no_more(stream):
 
 # The three commands. Each returns the exit status.
 
-def book_text(path, ending):
+def book_text(arguments):
     """The text of a book without bad lines, None where it has some or no
-    record; the ending is told then."""
+    record."""
+    path, ending = arguments.book, ENDINGS[arguments.command]
     text = pack.Text(read(None if path == "-" else path))
     if not text.is_text():
         tell(pack.NO_TEXT % shown(path), ending)
+        return None
+    if text.is_empty() and not text.problems:
+        tell(pack.NO_RECORD, "    %s; docs/BOOKS.md tells how they are written"
+             % pack.EXPECTED_RECORD, ending)
         return None
     for note in text.notes:
         tell("note: " + note)
     if text.problems:
         tell(*pack.report(text.problems, "", ending))
         return None
-    if text.is_empty():
-        tell(ending)
-        return None
     return text
 
 
 def sheet(arguments, programs):
-    text = book_text(arguments.book, "no sheet is printed")
+    text = book_text(arguments)
     if text is None:
         return BAD_TEXT
     made = sheets.Sheet(programs, text)
@@ -178,12 +193,12 @@ def sheet(arguments, programs):
 
 
 def explain(arguments, programs):
-    text = book_text(arguments.book, "nothing is explained")
+    text = book_text(arguments)
     if text is None:
         return BAD_TEXT
     ledger = sheets.Sheet(programs, text).ledger
     try:
-        chain = chain_of(text, arguments.chain)
+        chain = chain_of(text, " ".join(arguments.chain).strip())
         lines = explaining.explanation(text, ledger, chain)
     except explaining.NoChain as none:
         tell(none)
@@ -222,11 +237,14 @@ def play(arguments, programs):
     requests, problems = playing.requests_of(
         lines, os.path.dirname(path) if path else "")
     tell(*["note: " + note for note in carriage_returns(lines)])
+    if problems and any("\0" in line for line in lines):
+        tell(pack.NO_TEXT % shown(path or "standard input"), ENDINGS["play"])
+        return BAD_TEXT
     if problems:
-        tell(*pack.report(problems, "", "nothing is played"))
+        tell(*pack.report(problems, "", ENDINGS["play"]))
         return BAD_TEXT
     if not any(requests):
-        tell("there is no call in this list", "nothing is played")
+        tell("there is no call in this list", ENDINGS["play"])
         return BAD_TEXT
     session = playing.Session(programs)
     for line in playing.transcript(session, lines, requests):
@@ -267,19 +285,17 @@ COMMANDS = {"sheet": sheet, "play": play, "explain": explain}
 def run(words, programs):
     """The exit status of a command; OSError where its output cannot be
     written."""
-    arguments = parser().parse_args(["--help"] if words == ["help"] else words)
+    arguments = arguments_of(["--help"] if words == ["help"] else words)
     if arguments.command is None:
-        parser().print_help()
         return CANNOT
     try:
         return COMMANDS[arguments.command](arguments, programs)
     except sheets.RefusedFile as refused:
-        tell(*refused.args[0], {"sheet": "no sheet is printed"}.get(
-            arguments.command, "nothing is explained"))
+        tell(*refused.args[0], ENDINGS[arguments.command])
         return REFUSED
     except Unreadable as error:
-        tell(error)
-        return BAD_TEXT
+        tell(error, ENDINGS[arguments.command])
+        return CANNOT if isinstance(error, NoFile) else BAD_TEXT
     except Unavailable as error:
         tell(error)
         return CANNOT

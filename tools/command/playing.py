@@ -1,27 +1,28 @@
 """`quay play`: calls in words, each with its answer in words."""
 
 import os
+import re
 from collections import namedtuple
 
 import pack
 from calculation import book
-from calculation.sheet import used_chains
 from command.amounts import counted, emissions, grouped, moved
 from command.calls import CALLS, OTHERS, call_of, no_such_word
 from command.fields import (
-    VALUES, Wrong, expected_fields, listed, numbered, shown)
-from command.ledger import Ledger, call_record, compare_statement, load_of
+    VALUES, Wrong, as_thousands, expected_fields, listed, numbered, printable,
+    shown)
+from command.ledger import Ledger
 from command.naming import (
     carried, code_words, group_words, kind_words, plainly_called, with_name)
-from command.programs import Differs
 from command.refusals import of_call
-from command.sheets import Row, refusal, remarks, table
+from command.sheets import refusal, remarks, statements, table
 from command.texts import Unreadable, read, without_comment, without_remark
 
 MOST_SHOWN = 10  # elements of a closing
 
-# What a line asks for: its word, what the word needs, and the line.
-Request = namedtuple("Request", "word given line")
+# What a line asks for: its word, what the word needs, the line, and how it is
+# written in a list that is saved.
+Request = namedtuple("Request", "word given line saved")
 
 # Other words for a word.
 SAME = {"exit": "quit", "?": "help"}
@@ -30,17 +31,22 @@ SAME = {"exit": "quit", "?": "help"}
 # From a line to a request.
 
 def request_of(line, folder=""):
-    """The request of a line, None for a line without one. Books are looked
-    for where the command is run, and in the folder of the list."""
+    """The request of a line, None for a line without one. A `>` may stand
+    before it, as in the answers of a list. Books are looked for where the
+    command is run, and in the folder of the list."""
+    line = re.sub(r"^\s*>\s*", "", line)
     words = without_comment(line).split()
     if not words:
         return None
     word, *words = words
     word = SAME.get(word.lower(), word.lower())
+    saved = line.strip()
     if word in CALLS:
         given = call_of(word, words)
     elif word == "load":
-        given = book_at(path_in(line, word), folder)
+        path = found_at(path_in(line, word), folder)
+        given = shown(path), book_at(path, folder)
+        saved = "load " + path
     elif word == "save":
         given = path_in(line, word)
     elif word == "name":
@@ -54,7 +60,7 @@ def request_of(line, folder=""):
                     "expected `%s` alone" % word)
     else:
         given = None
-    return Request(word, given, line.strip())
+    return Request(word, given, line.strip(), saved)
 
 
 def path_in(line, word):
@@ -66,21 +72,31 @@ def path_in(line, word):
     return os.path.expanduser(path)
 
 
-def book_at(path, folder):
-    """The path of a book and its text."""
+def found_at(path, folder):
+    """The path of a file that is where one is, or else in a folder."""
     beside = os.path.join(folder, path)
+    return (beside if os.path.exists(beside) and not os.path.exists(path)
+            else path)
+
+
+def book_at(path, folder):
+    """The text of a book."""
     try:
-        text = pack.Text(read(path if os.path.exists(path) else beside))
+        text = pack.Text(read(path))
     except Unreadable as error:
-        raise Wrong(str(error), "expected the path of a book's text")
+        raise Wrong(str(error), "expected the path of a book's text, from "
+                    "where you are%s" % (" or from the list's folder"
+                                         * bool(folder)))
+    if not text.is_text():
+        raise Wrong(pack.NO_TEXT % shown(path), "expected a book's text")
     if text.problems:
         number, _, what, expected = text.problems[0]
         raise Wrong("%s, line %d: %s" % (shown(path), number, what),
-                    "%s; `quay sheet` tells all of its bad lines" % expected)
+                    "%s; `quay sheet` tells more of its bad lines" % expected)
     if text.is_empty():
         raise Wrong("%s has no record" % shown(path),
                     "expected the path of a book's text")
-    return shown(path), text
+    return text
 
 
 def help_topic(word):
@@ -107,18 +123,19 @@ class Session:
         """The lines that answer a request."""
         before = self.refused
         if request.word in CALLS:
-            lines = list(self.answer_call(request.word, request.given))
+            lines = ["note: " + note for note
+                     in as_thousands(without_comment(request.line))]
+            lines += self.answer_call(request.word, request.given)
             is_kept = self.refused == before
         else:
             lines = list(OTHER_ANSWERS[request.word](self, request.given))
             is_kept = request.word in ("load", "name")
         if is_kept:
-            self.lines.append(request.line)
+            self.lines.append(request.saved)
         return lines
 
     def answer_call(self, name, arguments):
-        refused, *numbers = self.ledger.call(
-            call_record(CALLS[name].operation, arguments))
+        refused, *numbers = self.ledger.call(name, arguments)
         if refused:
             self.refused += 1
             yield from of_call(refused, self.ledger.words, name, arguments)
@@ -169,20 +186,13 @@ def told_close(session, arguments, numbers):
 
 
 def handed_out(held, category):
-    """The shares of a closed category add up to its unstruck entries."""
-    entries = book.unstruck(held.entries_of(category))
-    elements = held.elements_of(category)
-    for amount in book.AMOUNTS:
-        shares, posted = (book.total(records, amount)
-                          for records in (elements, entries))
-        if shares != posted:
-            raise Differs("category %d: the shares of %s add up to %d, and its "
-                          "unstruck entries to %d" % (category, amount, shares,
-                                                      posted))
-    if not entries:
+    """What the shares of a closed category add up to: its unstruck entries.
+    """
+    if not book.unstruck(held.entries_of(category)):
         return "    it has no entry that is not struck: every share is 0"
     return "    all is handed out: operation %s, provision %s" % tuple(
-        emissions(book.total(elements, amount)) for amount in book.AMOUNTS)
+        emissions(book.total(held.elements_of(category), amount))
+        for amount in book.AMOUNTS)
 
 
 def told_fresh(session, arguments, numbers):
@@ -194,7 +204,6 @@ def told_statement(session, arguments, numbers):
     chain, = arguments
     elements, waiting, *sums = numbers
     held = session.ledger.book
-    compare_statement(held, chain, numbers)
     open_ones = sorted({element.category for element in held.elements
                         if element.chain == chain
                         and held.is_open(element.category)})
@@ -234,7 +243,7 @@ ANSWERS = {
 
 def told_load(session, given):
     path, text = given
-    numbers = session.ledger.call(load_of(text.data()))
+    numbers = session.ledger.load(text.data())
     session.names = dict(text.names)
     for note in text.notes:
         yield "note: " + note
@@ -263,15 +272,10 @@ def told_show(session, given):
 
 def told_sheet(session, given):
     """The statements of all chains, and who waits for what."""
-    held = session.ledger.book
-    chains = used_chains(session.ledger.words)
-    statements = session.ledger.statements(chains)
-    for chain, statement in zip(chains, statements):
-        compare_statement(held, chain, statement)
-    yield from table([Row(chain, *statement) for chain, statement
-                      in zip(chains, statements)], session.names)
+    rows = statements(session.ledger)
+    yield from table(rows, session.names)
     yield from remarks(
-        held, session.names, plainly_called,
+        session.ledger.book, rows, session.names, plainly_called,
         lambda category: "when all its entries are posted, `close %d`"
         % category)
 
@@ -289,6 +293,10 @@ def told_save(session, path):
             file.writelines(line + "\n" for line in session.lines)
         yield ("saved %s: `quay play` plays it again, from this folder"
                % counted(len(session.lines), "line"))
+    except FileExistsError:
+        session.unsaved = True
+        yield ("not saved: %s is there already, and no file is written over; "
+               "choose another name" % shown(path))
     except (OSError, ValueError) as error:
         session.unsaved = True
         yield "not saved as %s: %s" % (
@@ -370,6 +378,18 @@ WHAT_FOR = {
 }
 
 
+# What else is worth knowing of a word.
+MORE = {
+    "strike": "an entry is struck once and stays struck; its number is not "
+              "given again",
+    "close": "it stays closed, and takes no more entries, elements or strikes",
+    "intensity": "it is in whole mg: what benefits all and what benefits the "
+                 "group are rounded apart, halves up, and then added",
+    "load": "the book so far is left, also where the load stops at a record",
+    "save": "no file is written over",
+}
+
+
 def help_on(word):
     if not word:
         for other, purpose in WHAT_FOR.items():
@@ -381,6 +401,8 @@ def help_on(word):
     yield "%s: %s" % (word, WHAT_FOR[word])
     example = CALLS[word].example if word in CALLS else OTHERS[word]
     yield "    %s" % example
+    if word in MORE:
+        yield "    " + MORE[word]
     if word in CALLS and CALLS[word].fields:
         yield "    %s" % expected_fields(word, CALLS[word].fields)
         for field in CALLS[word].fields:
@@ -402,12 +424,6 @@ def requests_of(lines, folder=""):
         except Wrong as wrong:
             problems.append(pack.Problem(number, line, *wrong.args))
     return requests, problems
-
-
-def printable(line):
-    """A line without signs that steer a terminal."""
-    return "".join(sign if sign.isprintable() or sign == "\t" else "?"
-                   for sign in line)
 
 
 def transcript(session, lines, requests):

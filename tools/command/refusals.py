@@ -1,8 +1,8 @@
 """Refusals in words.
 
 A refusal's number is the program's own. What is said of it is looked for in
-the book that the program shows; where nothing of that number is found, or
-the separate calculation gives another number, that is told.
+the book that the program shows; where nothing of that number is found, that
+is told.
 """
 
 from collections import namedtuple
@@ -35,10 +35,14 @@ MEANINGS = {
     13: "a flag is above 1, or a field that must be 0 is not",
 }
 
+# How one speaks of records: how one is called, from its table's word and its
+# number, and how entries get another group.
+Speech = namedtuple("Speech", "called regrouped")
+PLAYED = Speech(plainly_called, "struck, and posted again with `group all`")
+
 # A refused call: its name, its arguments by their words, the book that it was
-# refused by, and how a record of the book is called, from its table's word and
-# its number.
-Refused = namedtuple("Refused", "name arguments book called")
+# refused by, and how one speaks of its records.
+Refused = namedtuple("Refused", "name arguments book called regrouped")
 
 # What holds, in a few words, and what to look at.
 Reason = namedtuple("Reason", "what look")
@@ -204,7 +208,7 @@ def nothing_to_divide_by(refused):
         return
     if sums.F + sums.P == 0:
         yield Reason("no element in category %d" % category,
-                     "%s needs an element to carry its emissions" % called)
+                     "%s needs an element before it can be closed" % called)
     for group in closing.COLD_GROUPS:
         if sums.S(group) == 0 and any(sums.B(group, amount) > 0
                                       for amount in book.AMOUNTS):
@@ -213,8 +217,9 @@ def nothing_to_divide_by(refused):
                 "%s emissions and no %s element in category %d"
                 % (word, word, category),
                 "%s %s freight alone; %s needs an element of `code %s`, or "
-                "these emissions `group all`" % (
-                    entries_of_group(refused, group), word, called, word))
+                "these emissions are %s" % (
+                    entries_of_group(refused, group), word, called, word,
+                    refused.regrouped))
 
 
 def entries_of_group(refused, group):
@@ -290,16 +295,10 @@ REASONS = {
 }
 
 
-def reasons(number, words, name, arguments, called):
+def reasons(number, words, name, arguments, speech):
     """The reasons of a refused call on a book's words."""
-    reckoned = next(calls.CALLS[name].grounds(words, *arguments),
-                    calls.ACCEPTED)
-    if reckoned != number:
-        raise Differs("the program answers %d to `%s %s`, and %d is reckoned "
-                      "here" % (number, name, " ".join(map(str, arguments)),
-                                reckoned))
     refused = Refused(name, dict(zip(words_of(name), arguments)),
-                      book.Book(words), called)
+                      book.Book(words), *speech)
     found = list(REASONS[number](refused)) if number in REASONS else []
     if not found:
         raise Differs("the program refuses with %d, and nothing of that "
@@ -312,7 +311,7 @@ def reasons(number, words, name, arguments, called):
 def of_call(number, words, name, arguments):
     """The lines that tell a refused call."""
     yield "refused %d: %s" % (number, MEANINGS[number])
-    for what, look in reasons(number, words, name, arguments, plainly_called):
+    for what, look in reasons(number, words, name, arguments, PLAYED):
         yield "    %s: %s" % (what, look)
 
 
@@ -325,17 +324,12 @@ def of_file(numbers, text, ledger):
     """The number of the line that a file was stopped at, what is told of it
     and what to look at."""
     number, table, record = numbers
-    step = next((step for step in loading.steps(text.data())
-                 if (step.table, step.record) == (table, record)), None)
-    if step is None or step.bad_field != (number == loading.BAD_FIELD):
-        raise Differs("the program refuses with %d at record %d of table %d, "
-                      "and nothing of that number is found there" % (
-                          number, record, table))
-
+    step = next(step for step in loading.steps(text.data())
+                if (step.table, step.record) == (table, record))
     found = (list(bad_field(text.tables[table - 1][record - 1]))
              if step.bad_field else
              reasons(number, ledger.words, step.name, step.arguments,
-                     text.called))
+                     Speech(text.called, "written with `group all`")))
     told = "%s %d: %s (refused %d)" % (
         PLACES[table], record, found[0].what, number)
     return (text.line_of(1 if table == 4 else table, record), told,

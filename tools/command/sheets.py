@@ -8,7 +8,7 @@ from calculation.book import unstruck
 from calculation.sheet import HEADING, used_chains
 from command.amounts import LEFT, POINT, RIGHT, aligned, counted, tonnes
 from command.fields import shown
-from command.ledger import compare_statement, lines_of, loaded, numbers_in
+from command.ledger import in_line, lines_of, loaded, numbers_in
 from command.naming import with_name
 from command.programs import Differs
 from command.refusals import of_file
@@ -25,8 +25,8 @@ class RefusedFile(Exception):
 
 class Sheet:
     """What `quaymeter` prints for a text, its rows, and the book that
-    `replay` shows after the same file. Each row is what the element records
-    of that book add up to."""
+    `replay` shows after the same file. Each row is what `replay` states of
+    its chain."""
 
     def __init__(self, programs, text):
         self.text = text
@@ -35,25 +35,32 @@ class Sheet:
         self.ledger, loading = loaded(programs, text.data())
         heading, *lines = lines_of(output) or [""]
         word, _, numbers = heading.partition(" ")
-        refused = numbers_in(numbers) if word == "refused" else (0, 0, 0)
+        refused = numbers_in(numbers) if word == "refused" else [0, 0, 0]
         if refused != loading or not any(refused) and heading != HEADING:
             raise Differs("quaymeter says `%s`, and replay `%s`" % (
-                shown(heading), " ".join(map(str, loading))))
+                shown(heading), in_line(loading)))
         if any(refused):
             raise RefusedFile(list(refusal(refused, text, self.ledger)))
         self.rows = self.rows_of(lines)
 
     def rows_of(self, lines):
         rows = [numbers_in(line) for line in lines]
-        found, used = ([row[0] if row else 0 for row in rows],
-                       used_chains(self.ledger.words))
-        if found != used:
-            raise Differs("the sheet has lines for the chains %s, and the book "
-                          "for %s" % tuple(" ".join(map(str, chains))
-                                           for chains in (found, used)))
-        for chain, *statement in rows:
-            compare_statement(self.ledger.book, chain, statement)
-        return [Row(*row) for row in rows]
+        stated = statements(self.ledger)
+        if len(rows) != len(stated):
+            raise Differs("the sheet has %s, and the book %s" % (
+                counted(len(rows), "line"), counted(len(stated), "chain")))
+        for row, statement in zip(rows, stated):
+            if row != list(statement):
+                raise Differs("quaymeter prints `%s`, and replay states `%s`"
+                              % (in_line(row), in_line(statement)))
+        return stated
+
+
+def statements(ledger):
+    """What `replay` states of each used chain."""
+    chains = used_chains(ledger.words)
+    return [Row(chain, *statement) for chain, statement
+            in zip(chains, ledger.statements(chains))]
 
 
 def refusal(numbers, text, ledger):
@@ -67,9 +74,14 @@ def refusal(numbers, text, ledger):
 
 # What is told beside a sheet.
 
-def remarks(book, names, called, to_close):
+def remarks(book, rows, names, called, to_close):
     """Who waits for what, and which emissions are in nobody's line. What a
     category is called and how it is closed depends on where it stands."""
+    waiting = {category: Counter(element.chain for element
+                                 in book.elements_of(category))
+               for category in book.kinds if book.is_open(category)}
+    compare_waiting(rows, waiting.values())
+    held = {row.chain: row.elements for row in rows}
     if not book.elements:
         yield "no element is in this book, so the sheet has no lines"
     for category in book.kinds:
@@ -77,7 +89,12 @@ def remarks(book, names, called, to_close):
         elements = book.elements_of(category)
         entries = unstruck(book.entries_of(category))
         if book.is_open(category) and elements:
-            yield from waiting_lines(book, names, elements, place)
+            yield ("%s is not closed, so these wait for it and have no "
+                   "emissions of it yet:" % place)
+            for chain, count in sorted(waiting[category].items()):
+                yield "    chain %s: %d of its %s" % (
+                    with_name(names, chain), count,
+                    counted(held[chain], "element"))
             yield "    " + to_close(category)
         elif book.is_open(category) and entries:
             yield ("%s is not closed and has no elements: %s in nobody's line"
@@ -88,23 +105,22 @@ def remarks(book, names, called, to_close):
                    "get no emissions of it" % place)
 
 
-def waiting_lines(book, names, elements, place):
-    held = Counter(element.chain for element in book.elements)
-    yield ("%s is not closed, so these wait for it and have no emissions of "
-           "it yet:" % place)
-    for chain, count in sorted(Counter(element.chain for element
-                                       in elements).items()):
-        yield "    chain %s: %d of its %s" % (
-            with_name(names, chain), count, counted(held[chain], "element"))
+def compare_waiting(rows, waiting):
+    """Those of a chain that wait for a category each are all that wait."""
+    for row in rows:
+        found = sum(counts[row.chain] for counts in waiting)
+        if found != row.waiting:
+            raise Differs("chain %d: the program says that %d wait, and %d are "
+                          "found here" % (row.chain, row.waiting, found))
 
 
 def remarks_of_text(sheet):
     """The remarks of a text, by its lines."""
     text = sheet.text
     return remarks(
-        sheet.ledger.book, text.names, text.called,
-        lambda category: "when all its entries are written, put `close` on "
-        "line %d and print the sheet again" % text.line_of(1, category))
+        sheet.ledger.book, sheet.rows, text.names, text.called,
+        lambda category: "when all its entries are written, %s and print the "
+        "sheet again" % text.to_close(category))
 
 
 def unused_names(sheet):

@@ -11,6 +11,10 @@ class Unreadable(Exception):
     """There is no text, and why."""
 
 
+class NoFile(Unreadable):
+    """There is no file, or it cannot be read."""
+
+
 # How files begin that are taken for a text by mistake.
 NO_TEXTS = (
     (b"\x03\x37\0\0", "it is packed already; target/bin/quaymeter reads it "
@@ -34,9 +38,9 @@ def read(path):
             with open(path, "rb") as file:
                 data = file.read()
     except OSError as error:
-        raise Unreadable("%s cannot be read: %s" % (name, error.strerror))
+        raise NoFile("%s cannot be read: %s" % (name, error.strerror))
     except ValueError:
-        raise Unreadable("%s is no name of a file" % name)
+        raise NoFile("%s is no name of a file" % name)
     for start, what in NO_TEXTS:
         if data.startswith(start):
             raise Unreadable("%s cannot be read: %s" % (name, what))
@@ -71,7 +75,8 @@ codecs.register_error("windows", windows_letters)
 def lines_of(text):
     """The lines, without an empty one at the end. A carriage return ends a
     line where the text has no other line ends (old Macintosh), and is a space
-    elsewhere."""
+    elsewhere. A last Ctrl-Z, which ends a text of DOS, is none of it."""
+    text = re.sub("\x1a$", "", text)
     lines = text.split("\n" if "\n" in text else "\r")
     if not lines[-1].strip():
         lines.pop()
