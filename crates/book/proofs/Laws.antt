@@ -2,7 +2,7 @@
 -- what an accepted one changes, and that it keeps all else (`Fresh`; `CategoryAdded`, `EntryAdded`, `EntryStruck`, `ElementAdded` of
 -- `RecordsAfterWrite` of `book_words`; `CategoryClosed` of `CloseWrites` of `book_shares`); that a refused one leaves the list as it
 -- was; that either leaves a sound book sound; of an opening and a closing, that they leave the sums of ground 10 as they are. Of a
--- statement: what it answers for an unused chain.
+-- statement: what it answers for an unused chain; it and the class total are within the limits of a book.
 -- Assumes nothing.
 use mathlib.Core.Bool.{true, false, cond, not, _&&_}
 use mathlib.Core.List.{List}
@@ -47,6 +47,7 @@ use Rattle.book.proofs.CallsKeepSound.{open-keeps, post-keeps, strike-k
 use Rattle.book.proofs.QuotedAmounts.{quote-measured}
 use Rattle.book_shares.proofs.CloseAccepted.{accepted-closing}
 pub use Rattle.book_shares.proofs.Laws.{close-refused, close-closed, shares-handed, share-near-exact, close-sound}
+pub use Rattle.book.proofs.StatementWalk.{StatementWithin, statement-within, class-total-within}
 
 module _ (ws : List ℕ) where
   -- where ground 1 does not hold, the book is there

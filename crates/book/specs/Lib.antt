@@ -1,4 +1,5 @@
 -- What a reader has to believe. `Inner` serves the contracts of inner functions.
 pub mod Calls
 pub mod Statements
+pub mod ClassTotal
 pub mod Inner

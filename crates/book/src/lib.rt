@@ -32,6 +32,7 @@ pub use replies::Counted;
 pub use replies::Reply;
 pub use replies::Statement;
 pub use replies::refusal_alone;
+pub use statements::class_total_sound;
 pub use statements::statement;
 pub use statements::statement_sound;
 pub use striking::strike;

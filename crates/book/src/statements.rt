@@ -1,14 +1,17 @@
-// Statement: what the elements of a chain got.
+// Statement: what the elements of a chain got; and the class total, what all elements got.
 ghost use mathlib.Core.Bool.{true};
 ghost use mathlib.Core.Path.{_≡_};
 ghost use Prim.Native.Nat.{_≤_};
 ghost use Rattle.apportion.specs.Places.{oneIf};
 ghost use Rattle.book_words.specs.Book.{categories};
 ghost use Rattle.book_words.specs.Soundness.{sound};
-ghost use Rattle.book.specs.Statements.{statementReply, statementOf, waits};
+ghost use Rattle.book.specs.ClassTotal.{classTotal};
+ghost use Rattle.book.specs.Inner.Chains.{ofChains, statementOver};
+ghost use Rattle.book.specs.Statements.{statementReply, waits};
 use crate::replies;
 use crate::replies::Statement;
 use book_words::Element;
+use book_words::MOST_CHAINS;
 
 // The statement of a chain.
 pub fn statement(book: &[u64], chain: u64) -> Statement
@@ -28,13 +31,21 @@ pub fn statement_sound(book: &[u64], chain: u64) -> Statement
     if !book_words::is_chain(chain) {
         return replies::zeros_beside(3);
     }
-    walk(book, chain)
+    walk(book, chain, chain)
 }
 
-// Counts and adds over the elements of a chain, in one walk.
-fn walk(book: &[u64], chain: u64) -> Statement
+// The class total of a book that is known to be sound, all of whose elements are on these chains.
+pub fn class_total_sound(book: &[u64]) -> Statement
     requires { ⌜ sound (now book) ≡ true ⌝ }
-    ensures { λ r. ⌜ r ≡ statementOf (now (book .entry)) chain ⌝ }
+    ensures { λ r. ⌜ r ≡ classTotal (now (book .entry)) ⌝ }
+{
+    walk(book, 1, MOST_CHAINS)
+}
+
+// Counts and adds over the elements of the chains from `first` to `last`, in one walk.
+fn walk(book: &[u64], first: u64, last: u64) -> Statement
+    requires { ⌜ sound (now book) ≡ true ⌝ }
+    ensures { λ r. ⌜ r ≡ statementOver (now (book .entry)) (ofChains first last) ⌝ }
 {
     let count = book[book_words::ELEMENTS];
     let mut elements = 0;
@@ -45,7 +56,7 @@ fn walk(book: &[u64], chain: u64) -> Statement
     while passed < count {
         passed += 1;
         let e = book_words::numbered_element(book, passed);
-        if e.chain != chain {
+        if !of_chains(first, last, e) {
             continue;
         }
         elements += 1;
@@ -61,6 +72,13 @@ fn walk(book: &[u64], chain: u64) -> Statement
         provision,
         total: operation + provision,
     }
+}
+
+// Whether an element is on one of the chains from `first` to `last`.
+fn of_chains(first: u64, last: u64, e: Element) -> bool
+    ensures { λ r. ⌜ r ≡ ofChains first last e ⌝ }
+{
+    (first <= e.chain) & (e.chain <= last)
 }
 
 // 1 for an element in an open category, else 0.

@@ -151,10 +151,10 @@ module _ (ws : List ℕ) (fine : sound ws ≡ true) where
             (λ p h. cond-most (isClosed ws (entryAt ws p .category)) (unstruck side (entryAt ws p))),
       )
 
-  -- the shares by chains, from 1 to 10,000, are all shares
-  pub shares-by-chain : (side : Side)
-      → sumBelow mostChains (λ j. sumBelow (elements ws) (λ p. cond (eqb (elementAt ws p .chain) (j + 1)) (shareOf side (elementAt ws p)) 0))
-      ≡ allShares ws side
-  shares-by-chain side =
-      sum-by-key 1 mostChains (elements ws) (λ p. elementAt ws p .chain) (λ p. shareOf side (elementAt ws p))
+  -- a sum over the elements by chains, from 1 to 10,000, is the sum over all elements
+  pub sum-by-chain : (number : Element → ℕ)
+      → sumBelow mostChains (λ j. sumBelow (elements ws) (λ p. cond (eqb (elementAt ws p .chain) (j + 1)) (number (elementAt ws p)) 0))
+      ≡ sumBelow (elements ws) (λ p. number (elementAt ws p))
+  sum-by-chain number =
+      sum-by-key 1 mostChains (elements ws) (λ p. elementAt ws p .chain) (λ p. number (elementAt ws p))
       (λ p h. (chain-inside p h .0, omega (arith, chain-inside p h .1)))

@@ -5,6 +5,7 @@ mod records;
 mod soundness;
 mod totals;
 
+pub use measures::MOST_CHAINS;
 pub use measures::activity;
 pub use measures::is_amount;
 pub use measures::is_chain;

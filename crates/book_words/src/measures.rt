@@ -4,6 +4,9 @@ ghost use Rattle.book_words.specs.Measures.{isKind, isChain, isCode, uns
 ghost use Rattle.book_words.specs.Inner.Steps.{capped};
 use crate::totals;
 
+// The last chain; the first is 1.
+pub const MOST_CHAINS: u64 = 10_000;
+
 pub fn is_kind(kind: u64) -> bool
     ensures { λ r. ⌜ r ≡ isKind kind ⌝ }
 {
@@ -13,7 +16,7 @@ pub fn is_kind(kind: u64) -> bool
 pub fn is_chain(chain: u64) -> bool
     ensures { λ r. ⌜ r ≡ isChain chain ⌝ }
 {
-    (1 <= chain) & (chain <= 10_000)
+    (1 <= chain) & (chain <= MOST_CHAINS)
 }
 
 pub fn is_code(code: u64) -> bool

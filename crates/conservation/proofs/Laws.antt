@@ -21,7 +21,7 @@ use Rattle.book.specs.Statements.{statementReply, statementOf, elementsOn, wait
 use Rattle.apportion.proofs.Grounds.{either}
 use Rattle.apportion.proofs.Sums.{sum-cong}
 use Rattle.book_words.proofs.Booleans.{and-both}
-use Rattle.book_words.proofs.ShareSums.{category-inside, open-shares, shares-all, shares-by-chain}
+use Rattle.book_words.proofs.ShareSums.{category-inside, open-shares, shares-all, sum-by-chain}
 use Rattle.book.proofs.Laws.{fresh-accepted, fresh-sound, open-sound, open-refused, post-sound, post-refused, strike-sound, strike-refused}
 use Rattle.book.proofs.Laws.{open-added, post-added, strike-struck, enrol-added, quote-added, close-closed}
 use Rattle.book.proofs.Laws.{enrol-sound, enrol-refused, quote-sound, quote-refused, close-sound, close-refused, statement-accepted}
@@ -87,7 +87,7 @@ module _ (ws : List ℕ) (fine : sound ws ≡ true) where
   unfolding sharesOn emissions sharesOf
   handed side =
       sum-cong mostChains (λ p. statedOn side (statementReply ws (p + 1))) (λ p. sharesOn ws (p + 1) side) (said side)
-      ∙ shares-by-chain ws fine side
+      ∙ sum-by-chain ws fine (shareOf side)
       ∙ shares-all ws fine side
       ∙ sym (rw (closed-sum ws fine side, quoted-sum ws side))
 

@@ -7,5 +7,9 @@ mod Decimals
 mod Used
 -- lines and their lengths
 mod Lines
+-- the columns of a sheet
+mod Columns
+-- the last line of a sheet
+mod LastLine
 -- the laws for the crates above
 pub mod Laws

@@ -12,28 +12,37 @@ use lib.Dec.{ltb}
 use lib.ListN.{length, getD, drop, set, length-append, drop-of-length-le}
 use lib.Seq.{sets, drop-cons, length-sets}
 use Rattle.apportion.specs.Places.{sumBelow}
-use Rattle.book.specs.Statements.{elementsOn, waitingOn, sharesOn, statementOf}
-use Rattle.book.proofs.StatementWalk.{Walked, walked-most, walked-fits}
+use Rattle.book.specs.ClassTotal.{classTotal}
+use Rattle.book.specs.Statements.{elementsOn, statementOf}
+use Rattle.book.specs.declared.replies.Statement.{Statement}
+use Rattle.book.proofs.Laws.{StatementWithin, statement-within, class-total-within}
 use Rattle.book_words.specs.Book.{elements}
 use Rattle.book_words.specs.Measures.{mostChains}
 use Rattle.book_words.specs.Soundness.{sound}
-use Rattle.book_words.specs.declared.totals.Side.the-variants.{Operation as operation, Provision as provision}
 use Rattle.book_words.proofs.SoundTests.{sound-counted}
-use Rattle.report.specs.Text.{decimal, spaced, line}
+use Rattle.report.specs.Text.{decimal, spaced, lineEnd, line}
 use Rattle.report.specs.Inner.Steps.{NextUsed}
-use Rattle.report.specs.Sheet.{heading, isUsed, chainLine, linesTo, chainLines, sheetText, sheetRoom, refusedWord, refusedText}
+use Rattle.report.specs.Sheet.{heading, isUsed, statementNumbers, chainLine, linesTo, chainLines, allWord, allLine, sheetText, sheetRoom}
+use Rattle.report.specs.Sheet.{refusedWord, refusedText}
 use Rattle.report.specs.Inner.Steps.{refusedRoom}
 use Rattle.report.proofs.Decimals.{digits-most, digits-few}
 use Rattle.report.proofs.Stores.{sets-append}
 use Rattle.report.proofs.Used.{elements-by-chain}
 
--- the most bytes of a chain's line: 5, 3, 3, 19, 19 and 19 digits, five spaces and the newline
+-- the most bytes of the end of a line with a statement's numbers: 3, 3, 19, 19 and 19 digits, five spaces and the newline
+abbrev endRoom : ℕ
+endRoom = 69
+
+-- the most bytes of a chain's line, whose number has at most 5 digits, and of the last line, which begins with a word of 3 bytes
 abbrev lineRoom : ℕ
-lineRoom = 74
+lineRoom = 5 + endRoom
+
+abbrev allRoom : ℕ
+allRoom = 3 + endRoom
 
 -- the end of a line whose first i numbers are stored: the others, each behind a space, and the newline
 abbrev pub restOf : List ℕ → ℕ → List ℕ
-restOf numbers i = spaced (drop i numbers) ++ (10 ∷ [])
+restOf numbers i = lineEnd (drop i numbers)
 
 -- one number more
 pub rest-next : (numbers : List ℕ) (i : ℕ) → i < length numbers
@@ -56,29 +65,33 @@ rest-length numbers i h =
     ∙ length-append (32 ∷ decimal (getD numbers i 0)) (restOf numbers (i + 1))
     ∙ omega arith
 
--- a line is its first number and the rest
-pub line-parts : (first : ℕ) (rest : List ℕ) → line first rest ≡ decimal first ++ restOf rest 0
-unfolding line
-line-parts first rest = refl
-
-pub line-length : (first : ℕ) (rest : List ℕ) → length (line first rest) ≡ length (decimal first) + length (restOf rest 0)
-line-length first rest = ap length (line-parts first rest) ∙ length-append (decimal first) (restOf rest 0)
-
 -- nothing is left of it but the newline
 pub rest-end : (numbers : List ℕ) (i : ℕ) → length numbers ≤ i → restOf numbers i ≡ 10 ∷ []
 rest-end numbers i h = rw (drop-of-length-le numbers {i = i} h)
 
--- a line of five numbers, and one of two, behind the first, by the most digits of each
-line-of-five : (f a b c d e : ℕ) → length (line f (a ∷ b ∷ c ∷ d ∷ e ∷ []))
-    ≡ length (decimal f) + length (decimal a) + length (decimal b) + length (decimal c) + length (decimal d) + length (decimal e) + 6
-unfolding line
-line-of-five f a b c d e = simp length-append (omega arith)
+-- the end of a line with the five numbers of a statement, and a line of two behind the first, by the digits of each
+end-of-five : (a b c d e : ℕ) → length (lineEnd (a ∷ b ∷ c ∷ d ∷ e ∷ []))
+    ≡ length (decimal a) + length (decimal b) + length (decimal c) + length (decimal d) + length (decimal e) + 6
+end-of-five a b c d e = simp length-append (omega arith)
 
 line-of-two : (f a b : ℕ) → length (line f (a ∷ b ∷ [])) ≡ length (decimal f) + length (decimal a) + length (decimal b) + 3
 unfolding line
 line-of-two f a b = simp length-append (omega arith)
 
--- so the line of a refusal has room
+-- so the end of a line with the numbers of a statement
+end-most : (s : Statement) → StatementWithin s → length (lineEnd (statementNumbers s)) ≤ endRoom
+end-most s within =
+    omega (
+      arith,
+      end-of-five (s .elements) (s .waiting) (s .operation) (s .provision) (s .total),
+      digits-most 2 (s .elements) (omega (arith, within)),
+      digits-most 2 (s .waiting) (omega (arith, within)),
+      digits-most 18 (s .operation) (omega (arith, within)),
+      digits-most 18 (s .provision) (omega (arith, within)),
+      digits-most 18 (s .total) (omega (arith, within)),
+    )
+
+-- and the line of a refusal have room
 pub refused-fits : (number table recordNumber : ℕ) → length (refusedText number table recordNumber) ≤ refusedRoom
 unfolding refusedText refusedWord
 refused-fits number table recordNumber =
@@ -199,33 +212,24 @@ module _ (ws : List ℕ) where
         let all = all-lines (chain - 1) (omega (arith, l .inside)) in
         (l .ends ∙ rw all, l .stored ∙ rw all)
 
-  -- a statement's numbers are those of a walk over all elements
-  walked-all : (chain : ℕ)
-      → Walked ws chain (elements ws) (elementsOn ws chain) (waitingOn ws chain) (sharesOn ws chain operation) (sharesOn ws chain provision)
-  unfolding elementsOn waitingOn sharesOn
-  walked-all chain =
-      record { inside = omega arith; all-counted = refl; all-waiting = refl; all-operation = refl; all-provision = refl }
-
   module _ (fine : sound ws ≡ true) where
     -- the line of a chain has at most 74 bytes
     line-most : (chain : ℕ) → chain ≤ mostChains → length (chainLine ws chain) ≤ lineRoom
-    unfolding chainLine statementOf
+    unfolding chainLine line
     line-most chain h =
-        let few = sound-counted ws fine in
-        let op = sharesOn ws chain operation in
-        let prov = sharesOn ws chain provision in
-        let counts = walked-fits ws chain (walked-all chain) in
-        let shares = walked-most ws chain fine (walked-all chain) in
+        let s = statementOf ws chain in
         omega (
           arith,
-          line-of-five chain (elementsOn ws chain) (waitingOn ws chain) op prov (op + prov),
+          length-append (decimal chain) (lineEnd (statementNumbers s)),
           digits-most 4 chain (omega arith),
-          digits-most 2 (elementsOn ws chain) (omega (arith, few, counts)),
-          digits-most 2 (waitingOn ws chain) (omega (arith, few, counts)),
-          digits-most 18 op (omega (arith, shares)),
-          digits-most 18 prov (omega (arith, shares)),
-          digits-most 18 (op + prov) (omega (arith, shares)),
+          end-most s (statement-within ws chain fine),
         )
+
+    -- the last line has at most 72
+    all-most : length (allLine ws) ≤ allRoom
+    unfolding allLine allWord
+    all-most =
+        omega (arith, length-append allWord (lineEnd (statementNumbers (classTotal ws))), end-most (classTotal ws) (class-total-within ws fine))
 
     -- the lines of the chains 1 to n have at most 74 bytes for each of their elements
     lines-most : (n : ℕ) → n ≤ mostChains → length (linesTo ws n) ≤ lineRoom * sumBelow n (λ j. elementsOn ws (j + 1))
@@ -241,9 +245,18 @@ module _ (ws : List ℕ) where
         go false e before = rw (e, append-nil (linesTo ws n)) (omega (arith, before))
 
     -- so a sheet has room
-    room-for : (n : ℕ) → n ≤ mostChains → sumBelow n (λ j. elementsOn ws (j + 1)) ≤ 256 → length (heading ++ linesTo ws n) ≤ sheetRoom
+    room-for : (n : ℕ) → n ≤ mostChains → sumBelow n (λ j. elementsOn ws (j + 1)) ≤ 256
+        → length ((heading ++ linesTo ws n) ++ allLine ws) ≤ sheetRoom
     unfolding heading
-    room-for n h few = omega (arith, length-append heading (linesTo ws n), lines-most n h, few)
+    room-for n h few =
+        omega (
+          arith,
+          length-append (heading ++ linesTo ws n) (allLine ws),
+          length-append heading (linesTo ws n),
+          lines-most n h,
+          all-most,
+          few,
+        )
 
     pub sheet-fits : length (sheetText ws) ≤ sheetRoom
     unfolding sheetText chainLines

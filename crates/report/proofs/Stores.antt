@@ -20,16 +20,20 @@ set-sets (x ∷ t) out i j b h =
     ∙ ap (λ (l : List ℕ). sets l (suc i) t) (set-comm out i j x b (λ e. let z : ⊥ = omega arith in absurd z))
 
 -- one text and then another: that there is room, where they end, and what is stored
-module _ (s t out : List ℕ) {between : List ℕ} {i : ℕ} (one : between ≡ sets out 0 s) (end : i ≡ 0 + length s) where
-  pub then-room : length (s ++ t) ≤ length out → i + length t ≤ length between
-  then-room h = omega (arith, end, h, length-append s t, ap length one, length-sets out 0 s)
+module _ (s t out : List ℕ) (start : ℕ) {between : List ℕ} {i : ℕ} (one : between ≡ sets out start s) (end : i ≡ start + length s) where
+  pub then-room : start + length (s ++ t) ≤ length out → i + length t ≤ length between
+  then-room h = omega (arith, end, h, length-append s t, ap length one, length-sets out start s)
 
   module _ {after : List ℕ} (two : after ≡ sets between i t) where
     pub then-kept : length after ≡ length out
-    then-kept = ap length two ∙ length-sets between i t ∙ ap length one ∙ length-sets out 0 s
+    then-kept = ap length two ∙ length-sets between i t ∙ ap length one ∙ length-sets out start s
 
-    pub then-stored : {j : ℕ} → j ≡ i + length t → (j ≡ length (s ++ t)) × (after ≡ sets out 0 (s ++ t))
-    then-stored last = (omega (arith, end, last, length-append s t), rw (two, one, end) (sym (sets-append s t out 0)))
+    pub then-stored : {j : ℕ} → j ≡ i + length t → (j ≡ start + length (s ++ t)) × (after ≡ sets out start (s ++ t))
+    then-stored last = (omega (arith, end, last, length-append s t), rw (two, one, end) (sym (sets-append s t out start)))
+
+-- so from the front of the buffer
+pub from-front : {B : Type 0} {end n : ℕ} → (end ≡ 0 + n) × B → (end ≡ n) × B
+from-front stored = (omega (arith, stored .0), stored .1)
 
 -- a text at the front of a buffer is its first bytes, as many as it is long
 pub record Front (text out : List ℕ) (count : ℕ) : Type 0 where

@@ -13,8 +13,7 @@ use Rattle.book_words.specs.Book.{elements, elementAt}
 use Rattle.book_words.specs.Measures.{mostChains}
 use Rattle.book_words.specs.Soundness.{sound}
 use Rattle.book_words.proofs.Booleans.{both, and-both}
-use Rattle.book_words.proofs.ShareSums.{chain-inside}
-use Rattle.book_words.proofs.SumsByKey.{sum-by-key}
+use Rattle.book_words.proofs.ShareSums.{sum-by-chain}
 use Rattle.report.specs.Inner.Steps.{NextUsed}
 use Rattle.report.specs.Sheet.{isUsed}
 
@@ -96,8 +95,7 @@ elements-by-chain ws fine =
     (λ j. sumBelow (elements ws) (λ p. cond (eqb (elementAt ws p .chain) (j + 1)) 1 0))
     (λ j h. sum-cong (elements ws) (λ p. oneIf (ofChain (j + 1) (elementAt ws p))) (λ p. cond (eqb (elementAt ws p .chain) (j + 1)) 1 0)
     (λ p i. one-or-none (eqb (elementAt ws p .chain) (j + 1))))
-    ∙ sum-by-key 1 mostChains (elements ws) (λ p. elementAt ws p .chain) (λ p. 1)
-    (λ p h. (chain-inside ws fine p h .0, omega (arith, chain-inside ws fine p h .1)))
+    ∙ sum-by-chain ws fine (λ e. 1)
     ∙ ones (elements ws)
   where
     one-or-none : (t : Bool) → oneIf t ≡ cond t 1 0

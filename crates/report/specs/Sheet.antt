@@ -1,10 +1,12 @@
 -- "The program .. prints the heading and one line per used chain, ascending, or `refused` with number, table (0 header) and record
--- (0)." Assumes nothing.
-use Prim.Native.Nat.{ℕ, zero, suc}
+-- (0)." The request adds "`all` and five sums" at the end of a sheet. Assumes nothing.
+use Prim.Native.Nat.{ℕ, zero, suc, _+_}
 use mathlib.Core.Bool.{Bool, cond, not}
 use mathlib.Core.List.{List, [], _∷_, _++_}
 use lib.Dec.{ltb}
 use Rattle.apportion.specs.Grounds.{Ground, firstOf, accepted}
+use Rattle.apportion.specs.Places.{sumBelow}
+use Rattle.book.specs.ClassTotal.{classTotal}
 use Rattle.book.specs.Statements.{elementsOn, statementOf}
 use Rattle.book.specs.declared.replies.Statement.{Statement}
 use Rattle.book_words.specs.Measures.{mostChains}
@@ -12,7 +14,7 @@ use Rattle.book_words.specs.Soundness.{sound}
 use Rattle.report.specs.declared.printing.Printed.{Printed}
 use Rattle.report.specs.declared.printing.Printed.the-variants.{Refused}
 use Rattle.report.specs.Printing.{PrintedNumbers, answerFor, numbersFor, bufferWith}
-use Rattle.report.specs.Text.{line}
+use Rattle.report.specs.Text.{line, lineEnd}
 
 -- "chain elements waiting operation provision total" and a newline
 unfoldable pub heading : List ℕ
@@ -50,13 +52,35 @@ linesTo ws (suc n) = linesTo ws n ++ cond (isUsed ws (suc n)) (chainLine ws (suc
 unfoldable pub chainLines : List ℕ → List ℕ
 chainLines ws = linesTo ws mostChains
 
+-- "all"
+unfoldable pub allWord : List ℕ
+allWord = 97 ∷ 108 ∷ 108 ∷ []
+
+-- "the printed statement to end with `all` and five sums: elements, waiting, operation, provision, total"
+unfoldable pub allLine : List ℕ → List ℕ
+allLine ws = allWord ++ lineEnd (statementNumbers (classTotal ws))
+
 -- the text of a sheet
 unfoldable pub sheetText : List ℕ → List ℕ
-sheetText ws = heading ++ chainLines ws
+sheetText ws = (heading ++ chainLines ws) ++ allLine ws
 
--- room enough for it: the heading's 49 bytes, and 74 for each of at most 256 lines
+-- the sum of a column over the printed lines, which are those of the used chains
+abbrev pub columnSum : List ℕ → (Statement → ℕ) → ℕ
+columnSum ws column = sumBelow mostChains (λ j. cond (isUsed ws (j + 1)) (column (statementOf ws (j + 1))) 0)
+
+-- the sums of the five columns
+abbrev pub columnSums : List ℕ → List ℕ
+columnSums ws =
+    columnSum ws (λ s. s .elements)
+    ∷ columnSum ws (λ s. s .waiting)
+    ∷ columnSum ws (λ s. s .operation)
+    ∷ columnSum ws (λ s. s .provision)
+    ∷ columnSum ws (λ s. s .total)
+    ∷ []
+
+-- room enough for it: the heading's 49 bytes, 74 for each of at most 256 lines, and 72 for the last
 abbrev pub sheetRoom : ℕ
-sheetRoom = 18_993
+sheetRoom = 19_065
 
 -- "1. .. the book is not sound."
 abbrev pub sheetGrounds : List ℕ → List Ground

@@ -2,7 +2,8 @@
 use Prim.Native.Nat.{ℕ, zero, suc, _+_, _/_, _%_}
 use mathlib.Core.Bool.{cond}
 use mathlib.Core.List.{List, [], _∷_, _++_}
-use lib.Dec.{ltb}
+use lib.Dec.{ltb, eqb}
+use Rattle.apportion.specs.Places.{oneIf}
 
 -- the byte of a digit: `0` is 48
 abbrev pub digit : ℕ → ℕ
@@ -22,6 +23,20 @@ abbrev pub spaced : List ℕ → List ℕ
 spaced [] = []
 spaced (n ∷ ns) = (32 ∷ decimal n) ++ spaced ns
 
+-- the end of a line: numbers, each behind a space, and the newline
+abbrev pub lineEnd : List ℕ → List ℕ
+lineEnd numbers = spaced numbers ++ (10 ∷ [])
+
 -- a line of numbers with single spaces between, and its newline
 unfoldable pub line : ℕ → List ℕ → List ℕ
-line first rest = decimal first ++ (spaced rest ++ (10 ∷ []))
+line first rest = decimal first ++ lineEnd rest
+
+-- how many newlines a text has
+abbrev pub newlines : List ℕ → ℕ
+newlines [] = 0
+newlines (b ∷ text) = oneIf (eqb b 10) + newlines text
+
+-- the last line of a text that ends in a newline: its longest end with one newline alone
+abbrev pub lastLine : List ℕ → List ℕ
+lastLine [] = []
+lastLine (b ∷ text) = cond (ltb 1 (newlines (b ∷ text))) (lastLine text) (b ∷ text)

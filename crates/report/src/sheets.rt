@@ -1,4 +1,4 @@
-// A sheet: the heading, and one line for each used chain, ascending.
+// A sheet: the heading, one line for each used chain, ascending, and the class total.
 ghost use mathlib.Core.Bool.{true};
 ghost use mathlib.Core.Path.{_≡_};
 ghost use Prim.Native.Nat.{_+_, _≤_};
@@ -7,14 +7,15 @@ ghost use lib.Seq.{sets};
 ghost use Rattle.book_words.specs.Measures.{isChain};
 ghost use Rattle.book_words.specs.Soundness.{sound};
 ghost use Rattle.report.specs.Printing.{printedNumbers, answerFor, numbersFor, bufferWith};
-ghost use Rattle.report.specs.Sheet.{chainLine, chainLines, sheetText, sheetRoom, sheetAnswer, sheetNumbers, sheetBuffer};
+ghost use Rattle.report.specs.Sheet.{chainLine, chainLines, allLine, sheetText, sheetRoom, sheetAnswer, sheetNumbers, sheetBuffer};
 use crate::chains;
 use crate::printing;
 use crate::printing::Printed;
 use crate::text;
+use book_words::MOST_CHAINS;
 
-// Room enough for a sheet: the heading, and 256 lines of at most 74 bytes.
-pub const SHEET_ROOM: usize = 18_993;
+// Room enough for a sheet: the heading, 256 lines of at most 74 bytes, and a last one of at most 72.
+pub const SHEET_ROOM: usize = 19_065;
 
 // Prints the sheet of a book of any words.
 pub fn sheet(book: &[u64], out: &mut [u8]) -> Printed
@@ -60,12 +61,13 @@ fn write_sheet(book: &[u64], out: &mut [u8]) -> usize
     ensures { λ r. ⌜ r ≡ length (sheetText (now (book .entry))) ⌝ }
     ensures { λ _. ⌜ now (out .exit) ≡ sets (now (out .entry)) 0 (sheetText (now (book .entry))) ⌝ }
 {
-    let at = text::put_bytes(
+    let start = text::put_bytes(
         b"chain elements waiting operation provision total\n",
         out,
         0,
     );
-    put_lines(book, out, at)
+    let end = put_lines(book, out, start);
+    put_all(book, out, end)
 }
 
 // Puts the lines of all used chains.
@@ -77,7 +79,7 @@ fn put_lines(book: &[u64], out: &mut [u8], start: usize) -> usize
 {
     let mut at = start;
     let mut chain = chains::next_used(book, 0);
-    while chain <= chains::LAST {
+    while chain <= MOST_CHAINS {
         at = put_chain(book, chain, out, at);
         chain = chains::next_used(book, chain);
     }
@@ -98,5 +100,21 @@ fn put_chain(book: &[u64], chain: u64, out: &mut [u8], at: usize) -> usize
         &[s.elements, s.waiting, s.operation, s.provision, s.total],
         out,
         at,
+    )
+}
+
+// Puts the last line: the class total.
+fn put_all(book: &[u64], out: &mut [u8], at: usize) -> usize
+    requires { ⌜ sound (now book) ≡ true ⌝ }
+    requires { ⌜ at + length (allLine (now book)) ≤ length (now out) ⌝ }
+    ensures { λ r. ⌜ r ≡ at + length (allLine (now (book .entry))) ⌝ }
+    ensures { λ _. ⌜ now (out .exit) ≡ sets (now (out .entry)) at (allLine (now (book .entry))) ⌝ }
+{
+    let t = book::class_total_sound(book);
+    let end = text::put_bytes(b"all", out, at);
+    text::put_line_end(
+        &[t.elements, t.waiting, t.operation, t.provision, t.total],
+        out,
+        end,
     )
 }

@@ -1,10 +1,10 @@
-// Text put into a buffer at a position: bytes, numbers in decimal, and lines of numbers. What puts answers the position behind
+// Text put into a buffer at a position: bytes, numbers in decimal, lines of numbers and their ends. What puts answers the position behind
 // what it put.
 ghost use mathlib.Core.Path.{_≡_};
 ghost use Prim.Native.Nat.{_+_, _≤_};
 ghost use lib.ListN.{length};
 ghost use lib.Seq.{sets};
-ghost use Rattle.report.specs.Text.{decimal, line};
+ghost use Rattle.report.specs.Text.{decimal, lineEnd, line};
 
 // Puts bytes.
 pub fn put_bytes(bytes: &[u8], out: &mut [u8], at: usize) -> usize
@@ -57,11 +57,21 @@ pub fn put_line(first: u64, rest: &[u64], out: &mut [u8], at: usize) -> usize
     ensures { λ r. ⌜ r ≡ at + length (line first (now (rest .entry))) ⌝ }
     ensures { λ _. ⌜ now (out .exit) ≡ sets (now (out .entry)) at (line first (now (rest .entry))) ⌝ }
 {
-    let mut end = put_number(first, out, at);
+    let end = put_number(first, out, at);
+    put_line_end(rest, out, end)
+}
+
+// Puts the end of a line: numbers, each behind a space, and the newline.
+pub fn put_line_end(numbers: &[u64], out: &mut [u8], at: usize) -> usize
+    requires { ⌜ at + length (lineEnd (now numbers)) ≤ length (now out) ⌝ }
+    ensures { λ r. ⌜ r ≡ at + length (lineEnd (now (numbers .entry))) ⌝ }
+    ensures { λ _. ⌜ now (out .exit) ≡ sets (now (out .entry)) at (lineEnd (now (numbers .entry))) ⌝ }
+{
+    let mut end = at;
     let mut i = 0;
-    while i < rest.len() {
+    while i < numbers.len() {
         out[end] = b' ';
-        end = put_number(rest[i], out, end + 1);
+        end = put_number(numbers[i], out, end + 1);
         i += 1;
     }
     out[end] = b'\n';

@@ -2,6 +2,7 @@
 use mathlib.Core.Path.{sym, _∙_}
 use borrow.Author.Needs.{needs}
 use Rattle.book.proofs.Laws.{statement-unknown, statement-accepted}
+use Rattle.book.proofs.StatementWalk.{over-chain}
 use Rattle.book.proofs.TestsAsGrounds.{was-true, was-false}
 use Rattle.book.proofs.statements.statement_sound.Statement.{statement}
 use Rattle.book.proofs.statements.statement_sound.Tie as tie
@@ -23,7 +24,7 @@ walk-requires c κs = search needs
 returns-2 : tie.Need-returns-2
 returns-2 c =
     let tested = c .before .before in
-    c .walk .ensures ∙ sym (statement-accepted _ _ (tested .before .before .pre) (was-true (tested .is-chain .ensures) (c .before .if1 .left)))
+    c .walk .ensures ∙ over-chain _ _ ∙ sym (statement-accepted _ _ (tested .before .before .pre) (was-true (tested .is-chain .ensures) (c .before .if1 .left)))
 
 pub statement-sound-spec : {M : Type 1} → statement M
 statement-sound-spec =

@@ -5,7 +5,7 @@ use borrow.Author.Needs.{needs}
 use Rattle.report.specs.Sheet.{refusedWord, refusedText}
 use Rattle.report.specs.Text.{line}
 use Rattle.report.proofs.Lines.{refused-fits}
-use Rattle.report.proofs.Stores.{then-room, then-kept, then-stored}
+use Rattle.report.proofs.Stores.{then-room, then-kept, then-stored, from-front}
 use Rattle.report.proofs.refusals.write_refused.Statement.{statement}
 use Rattle.report.proofs.refusals.write_refused.Tie as tie
 
@@ -24,7 +24,7 @@ put-line-requires c κs =
     let start = c .before .before .before .before .before .before .before .before in
     let put = c .before .before .before .before .put-bytes .ensures in
     let a = start .args in
-    then-room refusedWord (line (a .number) (a .table ∷ a .«record» ∷ [])) (a .out .now) (put .1) (put .0)
+    then-room refusedWord (line (a .number) (a .table ∷ a .«record» ∷ [])) (a .out .now) 0 (put .1) (put .0)
     (omega (arith, start .pre, refused-fits (a .number) (a .table) (a .«record»)))
 
 same-length : tie.Need-same-length
@@ -32,7 +32,7 @@ unfolding refusedWord
 same-length c =
     let a = c .before .before .before .before .before .before .before .before .before .before .before .args in
     let put = c .before .before .before .before .before .before .before .put-bytes .ensures in
-    then-kept refusedWord (line (a .number) (a .table ∷ a .«record» ∷ [])) (a .out .now) (put .1) (put .0) (c .before .before .put-line .ensures .1)
+    then-kept refusedWord (line (a .number) (a .table ∷ a .«record» ∷ [])) (a .out .now) 0 (put .1) (put .0) (c .before .before .put-line .ensures .1)
 
 returns : tie.Need-returns
 unfolding refusedText refusedWord
@@ -40,7 +40,7 @@ returns c =
     let a = c .before .before .before .before .before .before .before .before .before .before .before .args in
     let put = c .before .before .before .before .before .before .before .put-bytes .ensures in
     let end = c .before .before .put-line .ensures in
-    then-stored refusedWord (line (a .number) (a .table ∷ a .«record» ∷ [])) (a .out .now) (put .1) (put .0) (end .1) (end .0)
+    from-front (then-stored refusedWord (line (a .number) (a .table ∷ a .«record» ∷ [])) (a .out .now) 0 (put .1) (put .0) (end .1) (end .0))
 
 pub write-refused-spec : {M : Type 1} → statement M
 write-refused-spec =
