@@ -955,6 +955,8 @@ def differences():
          "total`, where `all` and five sums were expected"),
         (lambda output: DOCUMENT_SHEET.encode(), b"category kind 9",
          "and replay `3 1 1`"),
+        (lambda output: output + b"all 0 0 0 0 0\n", b"category kind 9",
+         "quaymeter prints `all 0 0 0 0 0` behind its refusal"),
     ):
         status, output, told = run("sheet", "-", text=text,
                                    programs=with_sheet(wrong))

@@ -39,6 +39,9 @@ class Sheet:
         if refused != loading or not any(refused) and heading != HEADING:
             raise Differs("quaymeter says `%s`, and replay `%s`" % (
                 shown(heading), in_line(loading)))
+        if any(refused) and lines:
+            raise Differs("quaymeter prints `%s` behind its refusal"
+                          % shown(lines[0]))
         if any(refused):
             raise RefusedFile(list(refusal(refused, text, self.ledger)))
         *lines, last = lines or [heading]
