@@ -1,6 +1,6 @@
 // The whole job of document 01's printing program in plain Rust: a file from standard input, its sheet to standard
-// output. It is a baseline for instruction counts, written from document 01 and proved nowhere. `sheet` is the job
-// itself, without the start of the process, the reading and the writing.
+// output, with the class total of document 02. It is a baseline for instruction counts, written from these papers and
+// proved nowhere. `sheet` is the job itself, without the start of the process, the reading and the writing.
 use std::io::{self, Read, Write};
 
 const MARK: u32 = 14083;
@@ -425,19 +425,24 @@ fn load(file: &[u8]) -> Result<Book, Stopped> {
     Ok(book)
 }
 
-// The heading and one line per used chain, ascending.
+// The heading, one line per used chain, ascending, and the class total.
 fn print(book: &Book, out: &mut Vec<u8>) -> io::Result<()> {
     writeln!(out, "chain elements waiting operation provision total")?;
     let mut order: Vec<&Element> = book.elements.iter().collect();
     order.sort_unstable_by_key(|element| element.chain);
+    let (mut all_waiting, mut all_operation, mut all_provision) = (0, 0, 0);
     for elements in order.chunk_by(|a, b| a.chain == b.chain) {
         let waiting = elements.iter().filter(|element| book.waits(element)).count();
         let operation: u64 = elements.iter().map(|element| element.shares[0]).sum();
         let provision: u64 = elements.iter().map(|element| element.shares[1]).sum();
         let total = operation + provision;
         writeln!(out, "{} {} {waiting} {operation} {provision} {total}", elements[0].chain, elements.len())?;
+        all_waiting += waiting;
+        all_operation += operation;
+        all_provision += provision;
     }
-    Ok(())
+    let all_total = all_operation + all_provision;
+    writeln!(out, "all {} {all_waiting} {all_operation} {all_provision} {all_total}", book.elements.len())
 }
 
 #[inline(never)]

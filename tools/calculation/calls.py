@@ -277,10 +277,16 @@ def statement(words, chain):
     (operation plus provision); zeros for an unused chain".
     """
     book = sound_book(words)
-    own = [element for element in book.elements if element.chain == chain]
-    waiting = [element for element in own if book.is_open(element.category)]
-    operation, provision = (total(own, amount) for amount in AMOUNTS)
-    return [len(own), len(waiting), operation, provision,
+    return sums_over(book, [element for element in book.elements
+                            if element.chain == chain])
+
+
+def sums_over(book, elements):
+    """The five sums over some elements of a book."""
+    waiting = [element for element in elements
+               if book.is_open(element.category)]
+    operation, provision = (total(elements, amount) for amount in AMOUNTS)
+    return [len(elements), len(waiting), operation, provision,
             operation + provision]
 
 

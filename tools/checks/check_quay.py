@@ -74,8 +74,8 @@ def random_line(rng):
         "strike %d" % (1 + rng.randrange(6)), "close %d" % category,
         "statement %d" % chain,
         "intensity %d %d" % (category, one_of(rng, (0, 1, 2, 100))),
-        "show", "load " + one_of(rng, (DOCUMENT, VOYAGE, "# none")),
-    )[:9 + (rng.randrange(20) == 0)])
+        "show", "sheet", "load " + one_of(rng, (DOCUMENT, VOYAGE, "# none")),
+    )[:10 + (rng.randrange(20) == 0)])
 
 
 def lists(rng):

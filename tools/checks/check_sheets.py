@@ -24,7 +24,7 @@ from cases.book_writer import BookCases, FARTHEST
 from cases.file_parts import FREIGHT, QUOTE, changed, full_parts
 from cases.file_writer import EXAMPLE, MOST_BYTES, cut_to, file_of
 from cases.random_files import changed_byte, changed_header, random_file
-from checks import check_endings
+from checks import check_endings, sheet_checks
 
 SEED = 1
 SECONDS = check_endings.SECONDS
@@ -61,6 +61,12 @@ def examples():
             raise SystemExit("examples/%s is no text of a book" % name)
         found.append((name, data))
     return found
+
+
+def written_out():
+    """Those whose sheets the tests have written out."""
+    return [("written-out sheet %d" % number, data) for number, (data, _)
+            in enumerate(sheet_checks.WRITTEN_OUT, 1)]
 
 
 def lengths():
@@ -175,7 +181,7 @@ def random_files(rng):
 
 
 def all_files(seed):
-    return [*examples(), *lengths(), *chains(), *amounts(),
+    return [*examples(), *written_out(), *lengths(), *chains(), *amounts(),
             *refused_everywhere(), *stored_files(),
             *random_files(random.Random(seed))]
 
@@ -263,7 +269,8 @@ def sheets(seed):
 def failing_writes():
     for name, data in (("document 01's example", EXAMPLE),
                        ("a full book", file_of(*full_parts())),
-                       ("a heading", file_of()), ("a refused file", b"")):
+                       ("a book without records", file_of()),
+                       ("a refused file", b"")):
         yield name + ", output full", says_that_output_is_full, data
         yield name + ", output closed", says_that_output_is_closed, data
 

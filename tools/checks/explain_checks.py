@@ -504,16 +504,21 @@ def check_arithmetic(check, board):
 
 def check_chains(check, text, programs=CALCULATED):
     """Every chain of a text is explained; its shares come to its line of the
-    sheet."""
+    sheet, and those of all chains to the last."""
     ledger = ledger_of(text, programs)
-    _, *lines = programs.quaymeter(text.data()).decode("ascii").splitlines()
+    _, *lines, last = programs.quaymeter(
+        text.data()).decode("ascii").splitlines()
+    explained = 0
     for line in lines:
         chain, elements, waits, *_, total = map(int, line.split())
         board = " ".join(" ".join(explanation(text, ledger, chain)).split())
         shares = [int(share) for share in SHARE.findall(board)]
         check(len(shares) == 2 * (elements - waits), "shares", board)
         check(sum(shares) == total, "the sum of the shares", board)
+        explained += sum(shares)
         check_arithmetic(check, board)
+    check(last.startswith("all ") and int(last.split()[-1]) == explained,
+          "the sum of all shares", explained, last)
     return len(lines)
 
 

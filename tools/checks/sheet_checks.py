@@ -11,19 +11,22 @@ from cases.random_files import changed_byte, changed_header, random_file
 SEED = 19
 HEADING = b"chain elements waiting operation provision total\n"
 
-# Document 01's own.
+# Document 01's own. "The example of document 01 ends with `all 3 0
+# 38671000000000 6725000000000 45396000000000`."
 SHEET_OF_EXAMPLE = b"""\
 chain elements waiting operation provision total
 4 1 0 28980000000000 5040000000000 34020000000000
 7 2 0 9691000000000 1685000000000 11376000000000
+all 3 0 38671000000000 6725000000000 45396000000000
 """
+NO_ELEMENT = HEADING + b"all 0 0 0 0 0\n"
 
 LONGEST = cut_to(EXAMPLE, 16_384)
 
 WRITTEN_OUT = (
     (EXAMPLE, SHEET_OF_EXAMPLE),
-    (file_of(), HEADING),
-    (file_of([(1, 0)], [(1, 0, 5, 6, 7)]), HEADING),
+    (file_of(), NO_ELEMENT),
+    (file_of([(1, 0)], [(1, 0, 5, 6, 7)]), NO_ELEMENT),
     (LONGEST, SHEET_OF_EXAMPLE),
     # Too long, also where the header says so, and too short.
     (LONGEST + b"\0", b"refused 11 0 0\n"),
@@ -42,18 +45,66 @@ WRITTEN_OUT = (
     (file_of([(3, 1)], [(1, 0, 1, 9, 0)],
              [(1, 10_000, 0, 0, 100, 1, 0, 0), (1, 9, 100, 0, 1, 1, 0, 0),
               (1, 1, 400, 0, 1, 1, 0, 0)]),
-     HEADING + b"1 1 0 5 0 5\n9 1 0 1 0 1\n10000 1 0 3 0 3\n"),
+     HEADING + b"1 1 0 5 0 5\n9 1 0 1 0 1\n10000 1 0 3 0 3\n"
+     b"all 3 0 9 0 9\n"),
     # "A 8, B1 5, ambient 100, chilled 300: 2 and 11", in provision; and the
     # same in a category that stays open, on the same chain.
     (file_of([(1, 1), (1, 0)],
              [(1, 0, 1, 0, 8), (1, 1, 1, 0, 5), (2, 0, 1, 0, 8)],
              [(1, 2, 0, 0, 100, 1, 0, 0), (2, 2, 0, 0, 100, 1, 0, 0),
               (1, 3, 1, 0, 300, 1, 0, 0), (2, 4, 1, 0, 300, 1, 0, 0)]),
-     HEADING + b"2 2 1 0 2 2\n3 1 0 0 11 11\n4 1 1 0 0 0\n"),
+     HEADING + b"2 2 1 0 2 2\n3 1 0 0 11 11\n4 1 1 0 0 0\n"
+     b"all 4 2 0 13 13\n"),
     # "Quote 1, 500 kg, 1 m: 1", twice; a quote never waits.
     (file_of((), (), [(0, 5, 0, 0, 500, 1, 1, 0),
                       (0, 5, 0, 0, 500, 1, 1, 1)]),
-     HEADING + b"5 2 0 2 1 3\n"),
+     HEADING + b"5 2 0 2 1 3\nall 2 0 2 1 3\n"),
+    # The class total. One chain: 21 over 1, 2 and 20 over 1, 2.
+    (file_of([(1, 1)], [(1, 0, 1, 21, 20)],
+             [(1, 7, 0, 0, 1, 1, 0, 0), (1, 7, 0, 0, 2, 1, 0, 0)]),
+     HEADING + b"7 2 0 21 20 41\nall 2 0 21 20 41\n"),
+    # Quotes alone, on three chains; there is a category without elements.
+    (file_of([(1, 0)], [(1, 0, 1, 9, 9)],
+             [(0, 3, 0, 0, 1000, 1, 5, 6), (0, 1, 0, 0, 1000, 1, 7, 0),
+              (0, 2, 0, 0, 1000, 1, 0, 8), (0, 3, 0, 0, 1000, 2, 50, 60)]),
+     HEADING + b"1 1 0 7 0 7\n2 1 0 0 8 8\n3 2 0 105 126 231\n"
+     b"all 4 0 112 134 246\n"),
+    # Open categories alone: all wait, and no entry is handed out.
+    (file_of([(1, 0), (4, 0)], [(1, 0, 1, 9, 9), (2, 0, 1, 10 ** 9, 0)],
+             [(1, 8, 0, 0, 1, 1, 0, 0), (2, 8, 1, 0, 1, 0, 0, 0),
+              (1, 6, 2, 0, 1, 1, 0, 0)]),
+     HEADING + b"6 1 1 0 0 0\n8 2 2 0 0 0\nall 3 3 0 0 0\n"),
+    # An open category, a closed one and quotes, on the same two chains: 10
+    # and 3 over 1, 1 are 5, 5 and 2, 1; the quotes are 100, 0 and 0, 1000.
+    (file_of([(1, 0), (1, 1)], [(1, 0, 1, 70, 70), (2, 0, 1, 10, 3)],
+             [(1, 4, 0, 0, 1, 1, 0, 0), (2, 4, 0, 0, 1, 1, 0, 0),
+              (0, 4, 0, 0, 1000, 1, 100, 0), (0, 2, 0, 0, 1000, 1, 0, 1000),
+              (2, 2, 0, 0, 1, 1, 0, 0), (1, 2, 0, 0, 1, 1, 0, 0)]),
+     HEADING + b"2 3 1 5 1001 1006\n4 3 1 105 2 107\n"
+     b"all 6 2 110 1003 1113\n"),
+    # 256 chains: quotes of 1, 2, 3 .. 256 and 1 each, the last chain first.
+    # 256 × 257 / 2 is 32896.
+    (file_of((), (), [(0, 257 - number, 0, 0, 1000, 1, number, 1)
+                      for number in range(1, 257)]),
+     HEADING + b"".join(b"%d 1 0 %d 1 %d\n" % (chain, 257 - chain, 258 - chain)
+                        for chain in range(1, 257))
+     + b"all 256 0 32896 256 33152\n"),
+    # The limit: 4 × 10^17 and 6 × 10^17 are posted, the rest of 10^18 is
+    # quoted.
+    (file_of([(1, 1)], [(1, 0, 10 ** 9, 4 * 10 ** 8, 6 * 10 ** 8)],
+             [(0, 1, 0, 0, 10 ** 9, 10 ** 6, 600_000, 400_000),
+              (1, 10_000, 0, 0, 1, 1, 0, 0)]),
+     HEADING + b"1 1 0 600000000000000000 400000000000000000 "
+     b"1000000000000000000\n10000 1 0 400000000000000000 600000000000000000 "
+     b"1000000000000000000\nall 2 0 1000000000000000000 1000000000000000000 "
+     b"2000000000000000000\n"),
+    # The same with the category open: what is posted is in no line.
+    (file_of([(1, 0)], [(1, 0, 10 ** 9, 4 * 10 ** 8, 6 * 10 ** 8)],
+             [(0, 1, 0, 0, 10 ** 9, 10 ** 6, 600_000, 400_000),
+              (1, 10_000, 0, 0, 1, 1, 0, 0)]),
+     HEADING + b"1 1 0 600000000000000000 400000000000000000 "
+     b"1000000000000000000\n10000 1 1 0 0 0\nall 2 1 600000000000000000 "
+     b"400000000000000000 1000000000000000000\n"),
 )
 
 
@@ -64,7 +115,7 @@ def written_out(check):
 
 def second_sheet(data):
     """The sheet once more: element after element is added to the line of its
-    chain."""
+    chain, and the lines to the last."""
     words = [0] * 2404
     numbers = second_load(words, data)
     if numbers != [0, 0, 0]:
@@ -76,13 +127,18 @@ def second_sheet(data):
         added = (1, waits, operation, provision, operation + provision)
         lines[chain] = [old + new for old, new
                         in zip(lines.get(chain, [0] * 5), added)]
-    return HEADING + b"".join(b"%d %d %d %d %d %d\n" % (chain, *lines[chain])
-                              for chain in sorted(lines))
+    last = [0] * 5
+    for line in lines.values():
+        last = [old + new for old, new in zip(last, line)]
+    return HEADING + b"".join(
+        b"%d %d %d %d %d %d\n" % (chain, *lines[chain])
+        for chain in sorted(lines)) + b"all %d %d %d %d %d\n" % tuple(last)
 
 
 def by_both_ways(check):
     rng = random.Random(SEED)
-    files = [file_of(*file_parts.full_parts()), file_parts.WHOLE]
+    files = [file_of(*file_parts.full_parts()), file_parts.WHOLE,
+             *[data for data, _ in WRITTEN_OUT]]
     for most in ((2, 3, 5), (4, 8, 12), (9, 20, 40)) * 20:
         data = random_file(rng, most)
         files += [data, changed_byte(data, rng), changed_header(data, rng)]

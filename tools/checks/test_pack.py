@@ -503,10 +503,12 @@ def voyage(data):
     check({0, 1, 2} < codes and len(codes) > 5, "freight and classes", codes)
     check({adjust for category, _, _, adjust, *_ in elements
            if category == 0} == {0, 1}, "with and without the adjustment")
-    _, *lines = [line.split() for line in sheet(data).decode().splitlines()]
+    _, *lines, last = [line.split()
+                       for line in sheet(data).decode().splitlines()]
     check(len(lines) >= 12, "a dozen chains", lines)
     check(sum(int(line[1]) > 1 for line in lines) >= 4, "several elements")
     check(0 < sum(int(line[2]) > 0 for line in lines) < 5, "some wait")
+    check(last[:3] == ["all", str(len(elements)), "3"], "all of them", last)
 
 
 good_lines()

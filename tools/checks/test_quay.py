@@ -62,6 +62,7 @@ DOCUMENT_TABLE = """\
 chain  name             elements  waiting  operation t  provision t  total t
     4  Coastal Dairies         1        0       28.98         5.04    34.02
     7  Harbour Mills           2        0        9.691        1.685   11.376
+  all                          3        0       38.671        6.725   45.396
 """
 
 
@@ -81,8 +82,8 @@ def plain_sheets():
             "no record", command)
     heading = DOCUMENT_SHEET.splitlines(True)[0]
     check(run("sheet", "-", text=b"category kind hub") == (
-        0, heading, "no element is in this book, so the sheet has no lines\n"),
-        "no element")
+        0, heading + "all 0 0 0 0 0\n", "no element is in this book, so no "
+        "chain has a line\n"), "no element")
 
 
 NAMED = b"""\
@@ -142,6 +143,7 @@ def tables():
 chain  elements  waiting  operation t  provision t  total t
     4         1        0       28.98         5.04    34.02
     7         2        0        9.691        1.685   11.376
+  all         3        0       38.671        6.725   45.396
 """, ""), "without names")
     check(run("sheet", "--tonnes", "-", text=NAMED) == (0, """\
 chain  name           elements  waiting     operation t     provision t\
@@ -152,6 +154,8 @@ chain  name           elements  waiting     operation t     provision t\
   0.000466666672
  9999                        1        1  0               0             \
   0
+  all                        5        3  0.000000000007  0.0007        \
+  0.000700000007
 """ + WAITING, UNUSED), "names", run("sheet", "--tonnes", "-", text=NAMED))
     check(run("sheet", "-", text=ODD)[2] == ODD_REMARKS, "nobody's line",
           run("sheet", "-", text=ODD))
@@ -161,7 +165,8 @@ chain  name           elements  waiting     operation t     provision t\
 
 
 def long_numbers():
-    """One number of more than 15 digits, and several."""
+    """One number of more than 15 digits, and several; those of the class
+    total count too."""
     quotes = ["quote chain %d mass 1_000_000_000 distance 10_000_000 operation "
               "20_000 provision 0" % chain for chain in (1, 2)]
     small = "quote chain 1 mass 1 distance 1 operation 0 provision 1000"
@@ -172,10 +177,12 @@ def long_numbers():
         # 100_000_089_999_900 has 13 digits before its zeros, and
         # 999_000_899_099_001 has 15.
         ([fifteen % 1000], ""), ([fifteen % 9990], ""),
-        (quotes[:1] + [small], "a spreadsheet keeps 15 digits of a number; 1 "
-                               "number here has more\n"),
+        (quotes[:1] + [small.replace("chain 1", "chain 2")], "a spreadsheet "
+         "keeps 15 digits of a number; 1 number here has more\n"),
+        (quotes[:1] + [small], "a spreadsheet keeps 15 digits of a number; 2 "
+                               "numbers here have more\n"),
         (quotes[:1] + [small, small.replace("operation 0", "operation 1000")],
-         "a spreadsheet keeps 15 digits of a number; 2 numbers here have "
+         "a spreadsheet keeps 15 digits of a number; 4 numbers here have "
          "more\n"),
     ):
         found = run("sheet", "--csv", "-", text="\n".join(lines).encode())[2]
@@ -187,11 +194,13 @@ def spreadsheets():
 chain,name,elements,waiting,operation ug,provision ug,total ug
 4,Coastal Dairies,1,0,28980000000000,5040000000000,34020000000000
 7,Harbour Mills,2,0,9691000000000,1685000000000,11376000000000
+all,,3,0,38671000000000,6725000000000,45396000000000
 """, ""), "comma-separated")
     check(run("sheet", "--csv", "--tonnes", DOCUMENT) == (0, """\
 chain,name,elements,waiting,operation t,provision t,total t
 4,Coastal Dairies,1,0,28.98,5.04,34.02
 7,Harbour Mills,2,0,9.691,1.685,11.376
+all,,3,0,38.671,6.725,45.396
 """, ""), "comma-separated in tonnes")
     text = ("name 1 Müller, \"Söhne\"\nquote chain 1 mass 1_000_000_000 "
             "distance 40_000_000 operation 20_001 provision 1")
@@ -200,16 +209,18 @@ chain,name,elements,waiting,operation t,provision t,total t
     check((status, output) == (0, """\
 \ufeffchain,name,elements,waiting,operation t,provision t,total t
 1,"Müller, ""Söhne\""",1,0,800040,40,800080
+all,,1,0,800040,40,800080
 """), "a name in quotation marks", output)
     for name in ("=1+1", "+49", "-1", "@x"):
         output = run("sheet", "--csv", "-", text=("name 1 %s\nquote chain 1 "
                      "mass 1 distance 1 operation 1 provision 1" % name)
                      .encode())[1]
-        check(output.endswith("1,'%s,1,0,0,0,0\n" % name), "no formula", output)
+        check(output.endswith("1,'%s,1,0,0,0,0\nall,,1,0,0,0,0\n" % name),
+              "no formula", output)
     text = text.replace("provision 1", "provision 1\nquote chain 1 mass 1 "
                         "distance 1 operation 1000 provision 0")
     check(run("sheet", "--csv", "-", text=text.encode())[2]
-          == "a spreadsheet keeps 15 digits of a number; 2 numbers here have "
+          == "a spreadsheet keeps 15 digits of a number; 4 numbers here have "
              "more\n", "many digits")
 
 
@@ -252,9 +263,9 @@ def bad_texts():
 REFUSED_TEXT = stored("examples", "document.txt").replace(
     "chain 4 code ambient", "chain 4 code 100")
 REFUSED_TOLD = """\
-line 20: element 2: passengers in a freight category (refused 6)
+line 21: element 2: passengers in a freight category (refused 6)
     element category 1 chain 4 code 100 amount 3_000 distance 300_000
-    category 1 (line 12) is of kind 1, freight, and takes the codes 0 \
+    category 1 (line 13) is of kind 1, freight, and takes the codes 0 \
 ambient, 1 chilled and 2 frozen; code 100 is passenger class 100
 no sheet is printed
 """
@@ -349,9 +360,10 @@ def stored_explanations():
 
 def board():
     """The book for the blackboard has what document 01 reckons by hand."""
-    lines = run("sheet", BOARD)[1].splitlines()[1:]
+    *lines, last = run("sheet", BOARD)[1].splitlines()[1:]
     check([int(line.split()[3]) for line in lines]
           == [3, 1, 5, 2, 11, 4, 3, 3, 1], "reckoned by hand", lines)
+    check(last == "all 9 0 33 0 33", "their sum", last)
 
 
 # quay play
@@ -460,18 +472,21 @@ def whole_sheets():
         check(session.answer(playing.request_of("sheet")) == table, "again")
     check(len(session.ledger.answers) == 2, "its statements are not kept")
     answered("sheet", "chain  elements  waiting  operation t  provision t  "
-             "total t\nno element is in this book, so the sheet has no lines")
+             "total t\n  all         0        0            0            0        "
+             "0\nno element is in this book, so no chain has a line")
     lines = answers("open 1", "open 4", POST.replace("category 1",
                                                      "category 2"),
                     ENROL, "sheet")[-1]
-    check(lines[2:] == [
+    check(lines[1:] == [
+        "    7         1        1            0            0        0",
+        "  all         1        1            0            0        0",
         "category 1 is not closed, so these wait for it and have no emissions "
         "of it yet:", "    chain 7: 1 of its 1 element",
         "    when all its entries are posted, `close 1`",
         "category 2 is not closed and has no elements: 1 entry of it is in "
         "nobody's line"], "who waits", lines)
     lines = answers("open 4", POST, "strike 1", "sheet")[-1]
-    check(len(lines) == 2, "a struck entry", lines)
+    check(len(lines) == 3, "a struck entry", lines)
 
 
 def saves():
@@ -672,7 +687,7 @@ frozen or lowest (class)
 fresh      begins an empty book
 load       begins a book from its text
 show       shows every record of the book
-sheet      shows what every chain is charged with, in tonnes
+sheet      shows what every chain is charged with, and all together, in tonnes
 name       names a chain
 save       saves the accepted lines as a list
 help       shows this, or more of one word
@@ -886,6 +901,7 @@ def with_sheet(change):
 def differences():
     """Each difference is told loudly, and no number is shown."""
     row = b"7 3 2 2 233333333 233333335"
+    total = b"all 5 3 7 700000000 700000007"
     for old, new, what in (
         (b"chain elements", b"chains elements", "quaymeter says `chains"),
         *((row, wrong, "quaymeter prints `%s`, and replay states `%s`"
@@ -901,6 +917,27 @@ def differences():
         (DOCUMENT_SHEET.encode()[:5], b"refused 3 1 1\nchain",
          "quaymeter says `refused 3 1 1`, and replay `0 0 0`"),
         (b"chain elements", b"refused x y", "a program prints `x y"),
+        *((total, wrong, "quaymeter prints `%s`, and its lines and the book's "
+           "elements add up to `%s`" % (wrong.decode(), total.decode()))
+          for wrong in (
+              b"all 6 3 7 700000000 700000007", b"all 5 2 7 700000000 700000007",
+              b"all 5 3 8 700000000 700000007", b"all 5 3 7 700000001 700000007",
+              b"all 5 3 7 700000000 700000008", b"all 3 2 7 700000000 700000007",
+              b"all 0 0 0 0 0")),
+        # None, without its word, of four or six numbers or of others, twice,
+        # not the last.
+        (total + b"\n", b"", "the sheet ends with `9999 1 1 0 0 0`, where "
+         "`all` and five sums were expected"),
+        (total, b"", "the sheet ends with ``, where `all`"),
+        *((total, wrong, "the sheet ends with `%s`, where `all` and five sums "
+           "were expected" % wrong.decode()) for wrong in (
+               total[4:], b"ALL" + total[3:], b"all", total[:-10],
+               total + b" 0")),
+        (total, b"all 5 3 x 0 0", "a program prints `5 3 x 0 0`"),
+        (total, total + b"\n" + total, "a program prints `%s`, where numbers "
+         "were expected" % total.decode()),
+        (total, total + b"\n10000 1 0 0 0 0", "the sheet ends with `10000 1 0 "
+         "0 0 0`, where `all`"),
     ):
         wrong = with_sheet(lambda output: output.replace(old, new))
         check(run("sheet", "-", text=NAMED, programs=with_sheet(
@@ -913,8 +950,13 @@ def differences():
             told)
     for wrong, text, what in (
         (lambda output: b"", NAMED, "quaymeter says ``, and replay `0 0 0`"),
+        (lambda output: output.splitlines(True)[0], b"category kind 1",
+         "the sheet ends with `chain elements waiting operation provision "
+         "total`, where `all` and five sums were expected"),
         (lambda output: DOCUMENT_SHEET.encode(), b"category kind 9",
          "and replay `3 1 1`"),
+        (lambda output: output + b"all 0 0 0 0 0\n", b"category kind 9",
+         "quaymeter prints `all 0 0 0 0 0` behind its refusal"),
     ):
         status, output, told = run("sheet", "-", text=text,
                                    programs=with_sheet(wrong))
@@ -978,6 +1020,18 @@ def differences_of_calls():
         check, "chain 7: the program says that 2 wait, and 1 are found here",
         sheets.compare_waiting, [sheets.Row(7, 2, 2, 0, 0, 0)],
         [{7: 1}, {7: 0}])
+    ledger, _ = loaded(CALCULATED, pack.Text(NAMED.decode()).data())
+    rows = sheets.statements(ledger)
+    check(sheets.with_total(rows, ledger)[:-1] == rows, "the same rows")
+    for place in range(1, 6):
+        wrong = list(rows[0])
+        wrong[place] += 1
+        sums = [5, 3, 7, 700_000_000, 700_000_007]
+        sums[place - 1] += 1
+        tells_difference(
+            check, "the lines add up to `%s`, and the book's elements to `5 3 "
+            "7 700000000 700000007`" % " ".join(map(str, sums)),
+            sheets.with_total, [sheets.Row(*wrong), *rows[1:]], ledger)
 
 
 # Outputs that cannot be written.
@@ -1045,7 +1099,8 @@ def help_texts():
     book_path = "a book's text; - for standard input"
     for command, *phrases in (
         ("sheet", "Packs a book's text, runs `quaymeter` and prints its sheet "
-         "as it is", "`name 7 Harbour Mills` in the text names chain 7",
+         "as it is", "The last line, `all`, has the sums of all chains",
+         "`name 7 Harbour Mills` in the text names chain 7",
          book_path, "a table in tonnes, exact, with chains' names",
          "comma-separated, for a spreadsheet"),
         ("play", "Plays calls in words, one a line, from a list or typed at a "
@@ -1073,8 +1128,8 @@ def help_texts():
 
 
 def documents():
-    """README has every refusal with its meaning; it and docs/BOOKS.md show
-    what is printed."""
+    """README has every refusal with its meaning; it, docs/BOOKS.md and the
+    example itself show what is printed."""
     table = dict(re.findall(r"^\| ([0-9]+) \| ([^|]*[^| ]) +\|", stored(
         "README.md"), re.M))
     check({int(number): meaning for number, meaning in table.items()}
@@ -1091,6 +1146,8 @@ def documents():
     ):
         check("".join("    %s\n" % line for line in output.splitlines())
               in stored(page), "a page shows", page, output)
+    check("".join("#     %s\n" % line for line in DOCUMENT_SHEET.splitlines())
+          in stored("examples", "document.txt"), "the example shows its sheet")
 
 
 shown_amounts()

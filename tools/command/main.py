@@ -41,7 +41,8 @@ cannot be written; 3 the ledger refuses (what is typed at the prompt ends with
 SHEET = """\
 Packs a book's text, runs `quaymeter` and prints its sheet as it is: a line for
 each chain with its elements, how many of them wait in categories that are not
-closed, and its operation, provision and total emissions in µg CO2e.
+closed, and its operation, provision and total emissions in µg CO2e. The last
+line, `all`, has the sums of all chains.
 
 A bad line, or the record that the ledger refuses, is told with its line and
 what to look at, and no sheet is printed. `name 7 Harbour Mills` in the text
@@ -184,7 +185,7 @@ def sheet(arguments, programs):
         say(*lines)
         tell(*sheets.long_numbers(made))
     elif arguments.tonnes:
-        say(*sheets.table(made.rows, text.names), *remarks)
+        say(*sheets.table(made.shown_rows, text.names), *remarks)
         remarks = []
     else:
         say(*made.printed.splitlines())

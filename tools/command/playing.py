@@ -15,7 +15,7 @@ from command.ledger import Ledger
 from command.naming import (
     carried, code_words, group_words, kind_words, plainly_called, with_name)
 from command.refusals import of_call
-from command.sheets import refusal, remarks, statements, table
+from command.sheets import refusal, remarks, statements, table, with_total
 from command.texts import Unreadable, read, without_comment, without_remark
 
 MOST_SHOWN = 10  # elements of a closing
@@ -271,9 +271,9 @@ def told_show(session, given):
 
 
 def told_sheet(session, given):
-    """The statements of all chains, and who waits for what."""
+    """The statements of all chains, their sums, and who waits for what."""
     rows = statements(session.ledger)
-    yield from table(rows, session.names)
+    yield from table(with_total(rows, session.ledger), session.names)
     yield from remarks(
         session.ledger.book, rows, session.names, plainly_called,
         lambda category: "when all its entries are posted, `close %d`"
@@ -370,7 +370,8 @@ WHAT_FOR = {
     "fresh": "begins an empty book",
     "load": "begins a book from its text",
     "show": "shows every record of the book",
-    "sheet": "shows what every chain is charged with, in tonnes",
+    "sheet": "shows what every chain is charged with, and all together, in "
+             "tonnes",
     "name": "names a chain",
     "save": "saves the accepted lines as a list",
     "help": "shows this, or more of one word",

@@ -5,7 +5,7 @@ import io
 from collections import Counter, namedtuple
 
 from calculation.book import unstruck
-from calculation.sheet import HEADING, used_chains
+from calculation.sheet import ALL, HEADING, class_total, used_chains
 from command.amounts import LEFT, POINT, RIGHT, aligned, counted, tonnes
 from command.fields import shown
 from command.ledger import in_line, lines_of, loaded, numbers_in
@@ -13,7 +13,7 @@ from command.naming import with_name
 from command.programs import Differs
 from command.refusals import of_file
 
-# A line of the sheet.
+# A line of the sheet; the chain of the last is ALL.
 Row = namedtuple("Row", HEADING)
 
 MOST_DIGITS = 15  # that a spreadsheet keeps of a number
@@ -26,7 +26,7 @@ class RefusedFile(Exception):
 class Sheet:
     """What `quaymeter` prints for a text, its rows, and the book that
     `replay` shows after the same file. Each row is what `replay` states of
-    its chain."""
+    its chain; `shown_rows` has the class total behind them."""
 
     def __init__(self, programs, text):
         self.text = text
@@ -39,9 +39,20 @@ class Sheet:
         if refused != loading or not any(refused) and heading != HEADING:
             raise Differs("quaymeter says `%s`, and replay `%s`" % (
                 shown(heading), in_line(loading)))
+        if any(refused) and lines:
+            raise Differs("quaymeter prints `%s` behind its refusal"
+                          % shown(lines[0]))
         if any(refused):
             raise RefusedFile(list(refusal(refused, text, self.ledger)))
+        *lines, last = lines or [heading]
+        sums = sums_in(last)
         self.rows = self.rows_of(lines)
+        self.shown_rows = with_total(self.rows, self.ledger)
+        total = self.shown_rows[-1]
+        if sums != list(total[1:]):
+            raise Differs("quaymeter prints `%s`, and its lines and the book's "
+                          "elements add up to `%s`" % (shown(last),
+                                                       in_line(total)))
 
     def rows_of(self, lines):
         rows = [numbers_in(line) for line in lines]
@@ -61,6 +72,27 @@ def statements(ledger):
     chains = used_chains(ledger.words)
     return [Row(chain, *statement) for chain, statement
             in zip(chains, ledger.statements(chains))]
+
+
+def sums_in(line):
+    """The five sums of a sheet's last line."""
+    word, _, sums = line.partition(" ")
+    numbers = numbers_in(sums) if word == ALL else []
+    if len(numbers) != 5:
+        raise Differs("the sheet ends with `%s`, where `%s` and five sums were "
+                      "expected" % (shown(line), ALL))
+    return numbers
+
+
+def with_total(rows, ledger):
+    """The rows of all chains, and the class total. It is reckoned over the
+    book's elements, and the rows have to add up to it."""
+    total = class_total(ledger.words)
+    added = [sum(row[place] for row in rows) for place in range(1, 6)]
+    if added != total:
+        raise Differs("the lines add up to `%s`, and the book's elements to "
+                      "`%s`" % (in_line(added), in_line(total)))
+    return [*rows, Row(ALL, *total)]
 
 
 def refusal(numbers, text, ledger):
@@ -83,7 +115,7 @@ def remarks(book, rows, names, called, to_close):
     compare_waiting(rows, waiting.values())
     held = {row.chain: row.elements for row in rows}
     if not book.elements:
-        yield "no element is in this book, so the sheet has no lines"
+        yield "no element is in this book, so no chain has a line"
     for category in book.kinds:
         place = called("category", category)
         elements = book.elements_of(category)
@@ -155,7 +187,7 @@ def comma_separated(sheet, in_tonnes):
     writer.writerow(["chain", "name", "elements", "waiting"]
                     + ["%s %s" % (word, unit) for word
                        in ("operation", "provision", "total")])
-    for row in sheet.rows:
+    for row in sheet.shown_rows:
         writer.writerow(
             [row.chain, no_formula(sheet.text.names.get(row.chain, "")),
              row.elements, row.waiting]
@@ -172,7 +204,7 @@ def no_formula(name):
 def long_numbers(sheet):
     """A note where a spreadsheet would round."""
     count = sum(len(str(amount).rstrip("0")) > MOST_DIGITS
-                for row in sheet.rows for amount in row[3:])
+                for row in sheet.shown_rows for amount in row[3:])
     if count:
         yield ("a spreadsheet keeps %d digits of a number; %s here %s more"
                % (MOST_DIGITS, counted(count, "number"),
