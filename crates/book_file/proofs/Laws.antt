@@ -53,16 +53,19 @@ module _ (ws file : List ℕ) where
       ap (λ (l : Loading). sound (l .book)) (header-passes fine)
       ∙ carried-sound (loadingOf Loaded (freshBook ws)) (tasksOf file) (fresh-fine fine)
 
-  -- so where the answer is loaded
-  pub loaded-sound : loadAnswer ws file ≡ Loaded → sound (loadBook ws file) ≡ true
-  loaded-sound loaded = go (headerRefusal (length ws) file) refl
+  -- where the answer is loaded, the header does not stop it
+  pub loaded-passes : loadAnswer ws file ≡ Loaded → headerRefusal (length ws) file ≡ 0
+  loaded-passes loaded = go (headerRefusal (length ws) file) refl
     where
-      go : (n : ℕ) → headerRefusal (length ws) file ≡ n → sound (loadBook ws file) ≡ true
-      go zero e = load-sound e
+      go : (n : ℕ) → headerRefusal (length ws) file ≡ n → headerRefusal (length ws) file ≡ 0
+      go zero e = e
       go (suc n) e =
           let stopped = ap (λ (l : Loading). numbersOf (l .answer) .refusal) (header-stops (λ z. omega (arith, e, z))) in
-          let none : headerRefusal (length ws) file ≡ 0 = sym stopped ∙ ap (λ (a : Load). numbersOf a .refusal) loaded in
-          let z : ⊥ = omega (arith, e, none) in absurd z
+          sym stopped ∙ ap (λ (a : Load). numbersOf a .refusal) loaded
+
+  -- so a loaded book is sound
+  pub loaded-sound : loadAnswer ws file ≡ Loaded → sound (loadBook ws file) ≡ true
+  loaded-sound loaded = load-sound (loaded-passes loaded)
 
 -- the book that tasks leave is that of a run of the calls accepted
 run-of : (run : Run) (tasks : List Task)

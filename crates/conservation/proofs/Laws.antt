@@ -1,4 +1,4 @@
--- Demand 3, for every list of calls. Assumes nothing.
+-- Demand 3 and the class total, for every list of calls. Assumes nothing.
 use mathlib.Core.Bool.{Bool, true, false, cond, _&&_}
 use mathlib.Core.List.{List, [], _∷_}
 use mathlib.Core.Option.{some}
@@ -9,7 +9,7 @@ use lib.Dec.{eqb, leb}
 use lib.ListN.{length}
 use borrow.Author.Tests.{le-leb}
 use Rattle.apportion.specs.Places.{oneIf, sumBelow}
-use Rattle.book_words.specs.Book.{elements, elementAt, isClosed}
+use Rattle.book_words.specs.Book.{bookLength, elements, elementAt, isClosed}
 use Rattle.book_words.specs.Measures.{isChain, mostChains}
 use Rattle.book_words.specs.Soundness.{sound}
 use Rattle.book_words.specs.declared.totals.Side.{Side}
@@ -17,9 +17,10 @@ use Rattle.book_words.specs.declared.totals.Side.the-variants.{Operation as ope
 use Rattle.book_words.specs.Totals.{shareOf, sharesOf}
 use Rattle.book_shares.specs.Shares.{exactOf}
 use Rattle.book.specs.Calls.{openReply, postReply, enrolReply, quoteReply}
+use Rattle.book.specs.ClassTotal.{overElements, classTotal}
 use Rattle.book.specs.Statements.{statementReply, statementOf, elementsOn, waitingOn, sharesOn, ofChain, waits}
 use Rattle.apportion.proofs.Grounds.{either}
-use Rattle.apportion.proofs.Sums.{sum-cong}
+use Rattle.apportion.proofs.Sums.{sum-add, sum-cong}
 use Rattle.book_words.proofs.Booleans.{and-both}
 use Rattle.book_words.proofs.ShareSums.{category-inside, open-shares, shares-all, sum-by-chain}
 use Rattle.book.proofs.Laws.{fresh-accepted, fresh-sound, open-sound, open-refused, post-sound, post-refused, strike-sound, strike-refused}
@@ -28,6 +29,7 @@ use Rattle.book.proofs.Laws.{enrol-sound, enrol-refused, quote-sound, quote-ref
 use Rattle.conservation.specs.declared.Call.{Call}
 use Rattle.conservation.specs.declared.Call.the-variants.{Open, Post, Strike, Enrol, Quote, Close}
 use Rattle.conservation.specs.Conserved.{gets, chainOf, waitsIn, chainGets, statementIn, quotedOn, statedOn, emissions, exactIn, Conserved, Conservation}
+use Rattle.conservation.specs.ClassTotal.{classTotalIn, TotalConservation}
 use Rattle.conservation.specs.Runs.{Run, step, next, after, runOf}
 use Rattle.conservation.specs.Tally.{Enrolment, Quotation, enrolled, quoted, numbered, closedIn, feed}
 use Rattle.conservation.proofs.NearExact.{Near, near-fresh, near-open, near-post, near-strike, near-enrol, near-quote, near-close}
@@ -83,13 +85,27 @@ module _ (ws : List ℕ) (fine : sound ws ≡ true) where
       of-side operation = refl
       of-side provision = refl
 
+  -- what all elements got
+  all-shares : (side : Side) → overElements ws (shareOf side) ≡ emissions (tallyOf ws) side
+  unfolding emissions sharesOf
+  all-shares side = shares-all ws fine side ∙ sym (rw (closed-sum ws fine side, quoted-sum ws side))
+
   handed : (side : Side) → sumBelow mostChains (λ p. statedOn side (statementReply ws (p + 1))) ≡ emissions (tallyOf ws) side
-  unfolding sharesOn emissions sharesOf
+  unfolding sharesOn
   handed side =
       sum-cong mostChains (λ p. statedOn side (statementReply ws (p + 1))) (λ p. sharesOn ws (p + 1) side) (said side)
       ∙ sum-by-chain ws fine (shareOf side)
-      ∙ shares-all ws fine side
-      ∙ sym (rw (closed-sum ws fine side, quoted-sum ws side))
+      ∙ all-shares side
+
+  -- so the class total is the tally's
+  total-read : classTotal ws ≡ classTotalIn (tallyOf ws)
+  unfolding classTotal
+  total-read =
+      let n = elements ws in
+      let all = elements-sum ws (λ k e. 1) (λ p. 1) (λ p h. refl) in
+      let wait = elements-sum ws (λ k e. oneIf (waitsIn (tallyOf ws) e)) (λ p. oneIf (waits ws (elementAt ws p))) (λ p h. rw (waits-read ws fine p h)) in
+      let both = sum-add n (λ p. elementAt ws p .operation) (λ p. elementAt ws p .provision) in
+      rw (all, wait, both, ← all-shares operation, ← all-shares provision)
 
   -- the element of the book that an enrolment of the tally is
   module _ (k : ℕ) (e : Enrolment) (is : numbered (tallyOf ws .elements) k ≡ some (enrolled e)) where
@@ -190,11 +206,19 @@ kept-after : (run : Run) (calls : List Call) → Kept run → Kept (after run ca
 kept-after run [] kept = kept
 kept-after run (call ∷ calls) kept = kept-after (next run call) calls (kept-next run call kept)
 
+kept-run : (ws : List ℕ) → bookLength ≤ length ws → (calls : List Call) → Kept (runOf ws calls)
+kept-run ws long calls =
+    kept-after (runOf ws []) calls
+    (record { book-sound = fresh-sound ws long; book-near = near-fresh ws long; tally-read = sym (fresh-read ws long) })
+
 -- Demand 3, of every list of calls from a fresh book.
 pub conserved : Conservation
 conserved ws long calls =
-    let run = runOf ws calls in
-    let kept : Kept run =
-    kept-after (runOf ws []) calls
-    (record { book-sound = fresh-sound ws long; book-near = near-fresh ws long; tally-read = sym (fresh-read ws long) }) in
-    (fresh-accepted ws long, rw (kept .tally-read) (conserving (run .book) (kept .book-sound) (kept .book-near)))
+    let kept = kept-run ws long calls in
+    (fresh-accepted ws long, rw (kept .tally-read) (conserving (runOf ws calls .book) (kept .book-sound) (kept .book-near)))
+
+-- And of the class total.
+pub total-conserved : TotalConservation
+total-conserved ws long calls =
+    let kept = kept-run ws long calls in
+    total-read (runOf ws calls .book) (kept .book-sound) ∙ ap classTotalIn (sym (kept .tally-read))

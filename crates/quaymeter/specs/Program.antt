@@ -24,6 +24,10 @@ textFor (Stopped number place) book = refusedLine (placeNumbers number place)
 unfoldable pub printedFrom : List ℕ → List ℕ → List ℕ
 printedFrom words file = textFor (loadAnswer words file) (loadBook words file)
 
--- what the program prints: it loads into words that are all 0
+-- the words that the program loads into are all 0
+abbrev pub zeroWords : List ℕ
+zeroWords = replicate bookLength 0
+
+-- what the program prints
 abbrev pub printed : List ℕ → List ℕ
-printed file = printedFrom (replicate bookLength 0) file
+printed file = printedFrom zeroWords file

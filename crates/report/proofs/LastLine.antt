@@ -10,6 +10,7 @@ use lib.ListN.{take}
 use Rattle.apportion.specs.Places.{oneIf}
 use Rattle.book.specs.ClassTotal.{classTotal}
 use Rattle.book.specs.Statements.{statementOf}
+use Rattle.book.specs.declared.replies.Statement.{Statement}
 use Rattle.book_words.specs.Measures.{mostChains}
 use Rattle.report.specs.Sheet.{heading, isUsed, statementNumbers, chainLine, linesTo, chainLines, allWord, allLine, sheetText}
 use Rattle.report.specs.Text.{digit, decimalWithin, decimal, spaced, lineEnd, line, newlines, lastLine}
@@ -52,9 +53,9 @@ end-one (n ∷ numbers) =
     ap newlines (append-assoc (32 ∷ decimal n) (spaced numbers) (10 ∷ []))
     ∙ omega (arith, newlines-append (decimal n) (lineEnd numbers), decimal-plain 20 n, end-one numbers)
 
-all-one : (ws : List ℕ) → newlines (allLine ws) ≡ 1
+all-one : (total : Statement) → newlines (allLine total) ≡ 1
 unfolding allLine allWord
-all-one ws = omega (arith, end-one (statementNumbers (classTotal ws)))
+all-one total = omega (arith, end-one (statementNumbers total))
 
 -- a text that ends in a newline
 record Ended (text : List ℕ) : Type 0 where
@@ -81,8 +82,9 @@ module _ (ws : List ℕ) where
       go false before = rw (append-nil (linesTo ws n)) before
 
   -- the class total is the last line of a sheet
-  pub sheet-last-line : lastLine (sheetText ws) ≡ allLine ws
+  pub sheet-last-line : lastLine (sheetText ws) ≡ allLine (classTotal ws)
   unfolding sheetText chainLines
   sheet-last-line =
       let lines = ended-lines mostChains in
-      ap (λ (l : List ℕ). lastLine (l ++ allLine ws)) (lines .is) ∙ last-behind (lines .front) (allLine ws) (all-one ws)
+      let last = allLine (classTotal ws) in
+      ap (λ (l : List ℕ). lastLine (l ++ last)) (lines .is) ∙ last-behind (lines .front) last (all-one (classTotal ws))

@@ -15,6 +15,8 @@ use Rattle.report.specs.declared.printing.Printed.{Printed}
 use Rattle.report.specs.declared.printing.Printed.the-variants.{Written, TooSmall, Refused}
 use Rattle.report.specs.Printing.{printedNumbers, answerFor, numbersFor, bufferWith}
 use Rattle.report.specs.Sheet.{sheetText, sheetRefusal, sheetAnswer, sheetNumbers, sheetBuffer}
+pub use Rattle.report.proofs.Columns.{class-total-of-lines}
+pub use Rattle.report.proofs.LastLine.{sheet-last-line}
 pub use Rattle.report.proofs.Lines.{sheet-fits, refused-fits}
 pub use Rattle.report.proofs.Stores.{Front, front-of}
 

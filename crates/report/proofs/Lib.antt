@@ -5,10 +5,10 @@ mod Stores
 mod Decimals
 -- used chains
 mod Used
--- lines and their lengths
-mod Lines
 -- the columns of a sheet
 mod Columns
+-- lines and their lengths
+mod Lines
 -- the last line of a sheet
 mod LastLine
 -- the laws for the crates above

@@ -27,7 +27,7 @@ use Rattle.report.specs.Sheet.{refusedWord, refusedText}
 use Rattle.report.specs.Inner.Steps.{refusedRoom}
 use Rattle.report.proofs.Decimals.{digits-most, digits-few}
 use Rattle.report.proofs.Stores.{sets-append}
-use Rattle.report.proofs.Used.{elements-by-chain}
+use Rattle.report.proofs.Columns.{elements-by-chain}
 
 -- the most bytes of the end of a line with a statement's numbers: 3, 3, 19, 19 and 19 digits, five spaces and the newline
 abbrev endRoom : ℕ
@@ -226,7 +226,7 @@ module _ (ws : List ℕ) where
         )
 
     -- the last line has at most 72
-    all-most : length (allLine ws) ≤ allRoom
+    all-most : length (allLine (classTotal ws)) ≤ allRoom
     unfolding allLine allWord
     all-most =
         omega (arith, length-append allWord (lineEnd (statementNumbers (classTotal ws))), end-most (classTotal ws) (class-total-within ws fine))
@@ -246,12 +246,12 @@ module _ (ws : List ℕ) where
 
     -- so a sheet has room
     room-for : (n : ℕ) → n ≤ mostChains → sumBelow n (λ j. elementsOn ws (j + 1)) ≤ 256
-        → length ((heading ++ linesTo ws n) ++ allLine ws) ≤ sheetRoom
+        → length ((heading ++ linesTo ws n) ++ allLine (classTotal ws)) ≤ sheetRoom
     unfolding heading
     room-for n h few =
         omega (
           arith,
-          length-append (heading ++ linesTo ws n) (allLine ws),
+          length-append (heading ++ linesTo ws n) (allLine (classTotal ws)),
           length-append heading (linesTo ws n),
           lines-most n h,
           all-most,
@@ -259,7 +259,7 @@ module _ (ws : List ℕ) where
         )
 
     pub sheet-fits : length (sheetText ws) ≤ sheetRoom
-    unfolding sheetText chainLines
+    unfolding sheetText chainLines classTotal
     sheet-fits =
-        let all : (k : ℕ) → k ≡ elements ws → k ≤ 256 = λ k e. omega (arith, e, sound-counted ws fine) in
+        let all : (k : ℕ) → k ≡ sumBelow (elements ws) (λ p. 1) → k ≤ 256 = λ k e. omega (arith, e, class-total-within ws fine) in
         room-for mostChains (le-refl mostChains) (all _ (elements-by-chain ws fine))

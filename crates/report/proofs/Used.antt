@@ -1,13 +1,13 @@
--- Used chains: what a walk over the elements holds of the next one, and how many elements all chains have. Assumes nothing.
+-- Used chains: what a walk over the elements holds of the next one; and unused ones. Assumes nothing.
 use Prim.Native.Nat.{ℕ, zero, suc, _+_, _≤_, _<_}
 use native.Mathlib.Omega.{arith}
 use mathlib.Core.Bool.{Bool, true, false, true≢false, cond, _&&_}
 use mathlib.Core.List.{List}
 use mathlib.Core.Path.{_≡_, refl, sym, _∙_}
 use lib.Dec.{eqb, ltb}
-use borrow.Author.Tests.{lt-ltb, eq-eqb, ne-eqb, ltb-true}
+use borrow.Author.Tests.{lt-ltb, eq-eqb, ne-eqb, ltb-true, ltb-false}
 use Rattle.apportion.specs.Places.{sumBelow, countBelow, oneIf}
-use Rattle.apportion.proofs.Sums.{sum-next, sum-cong}
+use Rattle.apportion.proofs.Sums.{sum-next, sum-more, sum-cong}
 use Rattle.book.specs.Statements.{elementsOn, ofChain}
 use Rattle.book_words.specs.Book.{elements, elementAt}
 use Rattle.book_words.specs.Measures.{mostChains}
@@ -39,6 +39,17 @@ module _ (ws : List ℕ) where
 
   next-more : (n chain : ℕ) → among ws n chain ≤ among ws (n + 1) chain
   next-more n chain = omega (arith, sum-next n (λ p. oneIf (ofChain chain (elementAt ws p))))
+
+  -- no element is on an unused chain
+  pub unused-none : (chain : ℕ) → isUsed ws chain ≡ false → (p : ℕ) → p < elements ws → elementAt ws p .chain ≡ chain → ⊥
+  unfolding isUsed elementsOn
+  unused-none chain unused p h on =
+      omega (
+        arith,
+        ltb-false 0 (among ws (elements ws) chain) unused,
+        next-met p chain on,
+        sum-more (p + 1) (elements ws) (λ q. oneIf (ofChain chain (elementAt ws q))) (omega arith),
+      )
 
 module _ {ws : List ℕ} {after : ℕ} where
   pub seen-start : Seen ws after 0 (suc mostChains)
@@ -85,23 +96,3 @@ module _ {ws : List ℕ} {after : ℕ} where
         used = λ h. rw (← e) (lt-ltb 0 _ (s .met h));
         none-between = λ chain a b. rw (← e, s .none-between chain a b);
       }
-
--- the elements of all chains are all elements
-pub elements-by-chain : (ws : List ℕ) → sound ws ≡ true → sumBelow mostChains (λ j. elementsOn ws (j + 1)) ≡ elements ws
-unfolding elementsOn
-elements-by-chain ws fine =
-    sum-cong mostChains
-    (λ j. countBelow (elements ws) (λ p. ofChain (j + 1) (elementAt ws p)))
-    (λ j. sumBelow (elements ws) (λ p. cond (eqb (elementAt ws p .chain) (j + 1)) 1 0))
-    (λ j h. sum-cong (elements ws) (λ p. oneIf (ofChain (j + 1) (elementAt ws p))) (λ p. cond (eqb (elementAt ws p .chain) (j + 1)) 1 0)
-    (λ p i. one-or-none (eqb (elementAt ws p .chain) (j + 1))))
-    ∙ sum-by-chain ws fine (λ e. 1)
-    ∙ ones (elements ws)
-  where
-    one-or-none : (t : Bool) → oneIf t ≡ cond t 1 0
-    one-or-none true = refl
-    one-or-none false = refl
-
-    ones : (n : ℕ) → sumBelow n (λ p. 1) ≡ n
-    ones zero = refl
-    ones (suc n) = omega (arith, ones n)

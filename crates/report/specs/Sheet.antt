@@ -57,12 +57,12 @@ unfoldable pub allWord : List ℕ
 allWord = 97 ∷ 108 ∷ 108 ∷ []
 
 -- "the printed statement to end with `all` and five sums: elements, waiting, operation, provision, total"
-unfoldable pub allLine : List ℕ → List ℕ
-allLine ws = allWord ++ lineEnd (statementNumbers (classTotal ws))
+unfoldable pub allLine : Statement → List ℕ
+allLine total = allWord ++ lineEnd (statementNumbers total)
 
 -- the text of a sheet
 unfoldable pub sheetText : List ℕ → List ℕ
-sheetText ws = (heading ++ chainLines ws) ++ allLine ws
+sheetText ws = (heading ++ chainLines ws) ++ allLine (classTotal ws)
 
 -- the sum of a column over the printed lines, which are those of the used chains
 abbrev pub columnSum : List ℕ → (Statement → ℕ) → ℕ

@@ -4,6 +4,7 @@ ghost use mathlib.Core.Path.{_≡_};
 ghost use Prim.Native.Nat.{_+_, _≤_};
 ghost use lib.ListN.{length};
 ghost use lib.Seq.{sets};
+ghost use Rattle.book.specs.ClassTotal.{classTotal};
 ghost use Rattle.book_words.specs.Measures.{isChain};
 ghost use Rattle.book_words.specs.Soundness.{sound};
 ghost use Rattle.report.specs.Printing.{printedNumbers, answerFor, numbersFor, bufferWith};
@@ -106,9 +107,9 @@ fn put_chain(book: &[u64], chain: u64, out: &mut [u8], at: usize) -> usize
 // Puts the last line: the class total.
 fn put_all(book: &[u64], out: &mut [u8], at: usize) -> usize
     requires { ⌜ sound (now book) ≡ true ⌝ }
-    requires { ⌜ at + length (allLine (now book)) ≤ length (now out) ⌝ }
-    ensures { λ r. ⌜ r ≡ at + length (allLine (now (book .entry))) ⌝ }
-    ensures { λ _. ⌜ now (out .exit) ≡ sets (now (out .entry)) at (allLine (now (book .entry))) ⌝ }
+    requires { ⌜ at + length (allLine (classTotal (now book))) ≤ length (now out) ⌝ }
+    ensures { λ r. ⌜ r ≡ at + length (allLine (classTotal (now (book .entry)))) ⌝ }
+    ensures { λ _. ⌜ now (out .exit) ≡ sets (now (out .entry)) at (allLine (classTotal (now (book .entry)))) ⌝ }
 {
     let t = book::class_total_sound(book);
     let end = text::put_bytes(b"all", out, at);

@@ -1,12 +1,10 @@
 -- `report::sheets::put_all` meets its contract: the word, and the numbers of the class total. Assumes nothing.
-use Prim.Native.Nat.{ℕ, _+_}
+use Prim.Native.Nat.{_+_, _≤_}
 use native.Mathlib.Omega.{arith}
-use mathlib.Core.List.{List, _++_}
-use mathlib.Core.Path.{_≡_, _∙_, ap}
+use mathlib.Core.Path.{_∙_, ap}
 use borrow.Author.Needs.{needs}
 use lib.ListN.{length, length-append}
 use lib.Seq.{sets}
-use Rattle.book.specs.ClassTotal.{classTotal}
 use Rattle.book.specs.declared.replies.Statement.{Statement}
 use Rattle.report.specs.Sheet.{statementNumbers, allWord, allLine}
 use Rattle.report.specs.Text.{lineEnd}
@@ -20,40 +18,38 @@ class-total-sound-requires c κs = search needs
 slice-aggregate-put-bytes : tie.Need-slice-aggregate-put-bytes
 slice-aggregate-put-bytes c = search needs
 
+abbrev start : tie.After-class-total-sound → tie.Start
+start c = c .before .before .before
+
+-- the line of the total that was told has room
+room : (c : tie.After-class-total-sound)
+    → start c .args .at + length (allLine (c .class-total-sound .result)) ≤ length (start c .args .out .now)
+room c = omega (arith, start c .pre .1, ap (λ (said : Statement). length (allLine said)) (c .class-total-sound .ensures))
+
 put-bytes-requires : tie.Need-put-bytes-requires
 unfolding allLine allWord
 put-bytes-requires c κs =
-    let start = c .before .before .before .before .before in
-    omega (arith, start .pre .1, length-append allWord (lineEnd (statementNumbers (classTotal (start .args .book .now)))))
+    let at = c .before .before in
+    omega (arith, room at, length-append allWord (lineEnd (statementNumbers (at .class-total-sound .result))))
 
 slice-aggregate-put-line-end : tie.Need-slice-aggregate-put-line-end
 slice-aggregate-put-line-end c = search needs
 
-abbrev start : tie.After-class-total-sound → tie.Start
-start c = c .before .before .before
-
--- the numbers are those of the class total
-is-end : (c : tie.After-class-total-sound)
-    → lineEnd (statementNumbers (c .class-total-sound .result)) ≡ lineEnd (statementNumbers (classTotal (start c .args .book .now)))
-is-end c = ap (λ (said : Statement). lineEnd (statementNumbers said)) (c .class-total-sound .ensures)
-
 put-line-end-requires : tie.Need-put-line-end-requires
 unfolding allLine allWord
 put-line-end-requires c κs =
-    let put = c .before .before .before .before .put-bytes .ensures in
     let at = c .before .before .before .before .before .before .before in
-    let s = start at in
-    let told = lineEnd (statementNumbers (at .class-total-sound .result)) in
-    let whole = lineEnd (statementNumbers (classTotal (s .args .book .now))) in
-    then-room allWord told (s .args .out .now) (s .args .at) (put .1) (put .0)
-    (omega (arith, s .pre .1, length-append allWord told, length-append allWord whole, ap length (is-end at)))
+    let put = c .before .before .before .before .put-bytes .ensures in
+    let a = start at .args in
+    then-room allWord (lineEnd (statementNumbers (at .class-total-sound .result))) (a .out .now) (a .at) (put .1) (put .0) (room at)
 
 same-length : tie.Need-same-length
 unfolding allWord
 same-length c =
     let at = c .before .before .before .before .before .before .before .before .before .before in
     let put = c .before .before .before .before .before .before .before .put-bytes .ensures in
-    then-kept allWord (lineEnd (statementNumbers (at .class-total-sound .result))) (start at .args .out .now) (start at .args .at) (put .1) (put .0)
+    let a = start at .args in
+    then-kept allWord (lineEnd (statementNumbers (at .class-total-sound .result))) (a .out .now) (a .at) (put .1) (put .0)
     (c .before .before .put-line-end .ensures .1)
 
 returns : tie.Need-returns
@@ -61,11 +57,12 @@ unfolding allLine allWord
 returns c =
     let at = c .before .before .before .before .before .before .before .before .before .before in
     let put = c .before .before .before .before .before .before .before .put-bytes .ensures in
-    let end = c .before .before .put-line-end .ensures in
     let a = start at .args in
-    let stored = then-stored allWord (lineEnd (statementNumbers (at .class-total-sound .result))) (a .out .now) (a .at) (put .1) (put .0) (end .1) (end .0) in (
-      stored .0 ∙ ap (λ (l : List ℕ). a .at + length (allWord ++ l)) (is-end at),
-      stored .1 ∙ ap (λ (l : List ℕ). sets (a .out .now) (a .at) (allWord ++ l)) (is-end at),
+    let end = c .before .before .put-line-end .ensures in
+    let told = lineEnd (statementNumbers (at .class-total-sound .result)) in
+    let stored = then-stored allWord told (a .out .now) (a .at) (put .1) (put .0) (end .1) (end .0) in (
+      stored .0 ∙ ap (λ (said : Statement). a .at + length (allLine said)) (at .class-total-sound .ensures),
+      stored .1 ∙ ap (λ (said : Statement). sets (a .out .now) (a .at) (allLine said)) (at .class-total-sound .ensures),
     )
 
 pub put-all-spec : {M : Type 1} → statement M

@@ -6,6 +6,7 @@ use mathlib.Core.Path.{_≡_}
 use borrow.Author.Needs.{needs}
 use lib.ListN.{length, length-append}
 use lib.Seq.{sets}
+use Rattle.book.specs.ClassTotal.{classTotal}
 use Rattle.report.specs.Sheet.{heading, chainLines, allLine, sheetText}
 use Rattle.report.proofs.Lines.{sheet-fits}
 use Rattle.report.proofs.Stores.{then-room, then-kept, then-stored, from-front}
@@ -27,7 +28,7 @@ put-lines-requires c κs =
     let fits = sheet-fits book (start .pre .0) in (
       start .pre .0,
       then-room heading (chainLines book) (start .args .out .now) 0 (put .1) (put .0)
-          (omega (arith, start .pre .1, fits, length-append (heading ++ chainLines book) (allLine book))),
+          (omega (arith, start .pre .1, fits, length-append (heading ++ chainLines book) (allLine (classTotal book)))),
     )
 
 abbrev start : tie.After-put-lines → tie.Start
@@ -50,7 +51,7 @@ put-all-requires c κs =
     let s = start at in
     let book = s .args .book .now in (
       s .pre .0,
-      then-room (heading ++ chainLines book) (allLine book) (s .args .out .now) 0 (lined at .1) (lined at .0)
+      then-room (heading ++ chainLines book) (allLine (classTotal book)) (s .args .out .now) 0 (lined at .1) (lined at .0)
           (omega (arith, s .pre .1, sheet-fits book (s .pre .0))),
     )
 
@@ -58,7 +59,7 @@ same-length : tie.Need-same-length
 same-length c =
     let at = c .before .before .before .before .before .before in
     let a = start at .args in
-    then-kept (heading ++ chainLines (a .book .now)) (allLine (a .book .now)) (a .out .now) 0 (lined at .1) (lined at .0)
+    then-kept (heading ++ chainLines (a .book .now)) (allLine (classTotal (a .book .now))) (a .out .now) 0 (lined at .1) (lined at .0)
     (c .before .before .put-all .ensures .1)
 
 returns : tie.Need-returns
@@ -68,7 +69,7 @@ returns c =
     let a = start at .args in
     let end = c .before .before .put-all .ensures in
     from-front
-    (then-stored (heading ++ chainLines (a .book .now)) (allLine (a .book .now)) (a .out .now) 0 (lined at .1) (lined at .0) (end .1) (end .0))
+    (then-stored (heading ++ chainLines (a .book .now)) (allLine (classTotal (a .book .now))) (a .out .now) 0 (lined at .1) (lined at .0) (end .1) (end .0))
 
 pub write-sheet-spec : {M : Type 1} → statement M
 write-sheet-spec =
