@@ -13,7 +13,7 @@ use Rattle.book.specs.Statements.{statementOf}
 use Rattle.book.specs.declared.replies.Statement.{Statement}
 use Rattle.book_words.specs.Measures.{mostChains}
 use Rattle.report.specs.Sheet.{heading, isUsed, statementNumbers, chainLine, linesTo, chainLines, allWord, allLine, sheetText}
-use Rattle.report.specs.Text.{digit, decimalWithin, decimal, spaced, lineEnd, line, newlines, lastLine}
+use Rattle.report.specs.Text.{digit, decimalWithin, decimal, spaced, lineEnd, line, wordLine, newlines, lastLine}
 
 newlines-append : (s t : List ℕ) → newlines (s ++ t) ≡ newlines s + newlines t
 newlines-append [] t = omega arith
@@ -54,7 +54,7 @@ end-one (n ∷ numbers) =
     ∙ omega (arith, newlines-append (decimal n) (lineEnd numbers), decimal-plain 20 n, end-one numbers)
 
 all-one : (total : Statement) → newlines (allLine total) ≡ 1
-unfolding allLine allWord
+unfolding allLine allWord wordLine
 all-one total = omega (arith, end-one (statementNumbers total))
 
 -- a text that ends in a newline

@@ -20,7 +20,7 @@ use Rattle.book_words.specs.Book.{elements}
 use Rattle.book_words.specs.Measures.{mostChains}
 use Rattle.book_words.specs.Soundness.{sound}
 use Rattle.book_words.proofs.SoundTests.{sound-counted}
-use Rattle.report.specs.Text.{decimal, spaced, lineEnd, line}
+use Rattle.report.specs.Text.{decimal, spaced, lineEnd, line, wordLine}
 use Rattle.report.specs.Inner.Steps.{NextUsed}
 use Rattle.report.specs.Sheet.{heading, isUsed, statementNumbers, chainLine, linesTo, chainLines, allWord, allLine, sheetText, sheetRoom}
 use Rattle.report.specs.Sheet.{refusedWord, refusedText}
@@ -69,14 +69,13 @@ rest-length numbers i h =
 pub rest-end : (numbers : List ℕ) (i : ℕ) → length numbers ≤ i → restOf numbers i ≡ 10 ∷ []
 rest-end numbers i h = rw (drop-of-length-le numbers {i = i} h)
 
--- the end of a line with the five numbers of a statement, and a line of two behind the first, by the digits of each
+-- the end of a line with the five numbers of a statement, and with the three of a refusal, by the digits of each
 end-of-five : (a b c d e : ℕ) → length (lineEnd (a ∷ b ∷ c ∷ d ∷ e ∷ []))
     ≡ length (decimal a) + length (decimal b) + length (decimal c) + length (decimal d) + length (decimal e) + 6
 end-of-five a b c d e = simp length-append (omega arith)
 
-line-of-two : (f a b : ℕ) → length (line f (a ∷ b ∷ [])) ≡ length (decimal f) + length (decimal a) + length (decimal b) + 3
-unfolding line
-line-of-two f a b = simp length-append (omega arith)
+end-of-three : (a b c : ℕ) → length (lineEnd (a ∷ b ∷ c ∷ [])) ≡ length (decimal a) + length (decimal b) + length (decimal c) + 4
+end-of-three a b c = simp length-append (omega arith)
 
 -- so the end of a line with the numbers of a statement
 end-most : (s : Statement) → StatementWithin s → length (lineEnd (statementNumbers s)) ≤ endRoom
@@ -93,12 +92,12 @@ end-most s within =
 
 -- and the line of a refusal have room
 pub refused-fits : (number table recordNumber : ℕ) → length (refusedText number table recordNumber) ≤ refusedRoom
-unfolding refusedText refusedWord
+unfolding refusedText refusedWord wordLine
 refused-fits number table recordNumber =
     omega (
       arith,
-      length-append refusedWord (line number (table ∷ recordNumber ∷ [])),
-      line-of-two number table recordNumber,
+      length-append refusedWord (lineEnd (number ∷ table ∷ recordNumber ∷ [])),
+      end-of-three number table recordNumber,
       digits-few number,
       digits-few table,
       digits-few recordNumber,
@@ -227,7 +226,7 @@ module _ (ws : List ℕ) where
 
     -- the last line has at most 72
     all-most : length (allLine (classTotal ws)) ≤ allRoom
-    unfolding allLine allWord
+    unfolding allLine allWord wordLine
     all-most =
         omega (arith, length-append allWord (lineEnd (statementNumbers (classTotal ws))), end-most (classTotal ws) (class-total-within ws fine))
 

@@ -14,7 +14,7 @@ use Rattle.book_words.specs.Soundness.{sound}
 use Rattle.report.specs.declared.printing.Printed.{Printed}
 use Rattle.report.specs.declared.printing.Printed.the-variants.{Refused}
 use Rattle.report.specs.Printing.{PrintedNumbers, answerFor, numbersFor, bufferWith}
-use Rattle.report.specs.Text.{line, lineEnd}
+use Rattle.report.specs.Text.{line, wordLine}
 
 -- "chain elements waiting operation provision total" and a newline
 unfoldable pub heading : List ℕ
@@ -58,7 +58,7 @@ allWord = 97 ∷ 108 ∷ 108 ∷ []
 
 -- "the printed statement to end with `all` and five sums: elements, waiting, operation, provision, total"
 unfoldable pub allLine : Statement → List ℕ
-allLine total = allWord ++ lineEnd (statementNumbers total)
+allLine total = wordLine allWord (statementNumbers total)
 
 -- the text of a sheet
 unfoldable pub sheetText : List ℕ → List ℕ
@@ -99,10 +99,10 @@ sheetNumbers ws room = numbersFor (sheetRefusal ws) (sheetText ws) room
 unfoldable pub sheetBuffer : List ℕ → List ℕ → List ℕ
 sheetBuffer ws buffer = accepted (sheetRefusal ws) (bufferWith (sheetText ws) buffer) buffer
 
--- "refused "
+-- "refused"
 unfoldable pub refusedWord : List ℕ
-refusedWord = 114 ∷ 101 ∷ 102 ∷ 117 ∷ 115 ∷ 101 ∷ 100 ∷ 32 ∷ []
+refusedWord = 114 ∷ 101 ∷ 102 ∷ 117 ∷ 115 ∷ 101 ∷ 100 ∷ []
 
 -- "`refused` with number, table (0 header) and record (0)", as `refused 11 0 0`
 unfoldable pub refusedText : ℕ → ℕ → ℕ → List ℕ
-refusedText number table recordNumber = refusedWord ++ line number (table ∷ recordNumber ∷ [])
+refusedText number table recordNumber = wordLine refusedWord (number ∷ table ∷ recordNumber ∷ [])

@@ -31,6 +31,10 @@ lineEnd numbers = spaced numbers ++ (10 ∷ [])
 unfoldable pub line : ℕ → List ℕ → List ℕ
 line first rest = decimal first ++ lineEnd rest
 
+-- a line that begins with a word
+unfoldable pub wordLine : List ℕ → List ℕ → List ℕ
+wordLine word numbers = word ++ lineEnd numbers
+
 -- how many newlines a text has
 abbrev pub newlines : List ℕ → ℕ
 newlines [] = 0

@@ -9,7 +9,7 @@ use crate::printing;
 use crate::printing::Printed;
 use crate::text;
 
-// The most bytes of the line: the word, three numbers of at most 20 digits, two spaces and the newline.
+// The most bytes of the line: the word, three numbers of at most 20 digits, three spaces and the newline.
 const ROOM: usize = 71;
 
 // Prints the line of a refusal: its number, table and record.
@@ -29,6 +29,5 @@ fn write_refused(number: u64, table: u64, record: u64, out: &mut [u8]) -> usize
     ensures { λ r. ⌜ r ≡ length (refusedText number table «record») ⌝ }
     ensures { λ _. ⌜ now (out .exit) ≡ sets (now (out .entry)) 0 (refusedText number table «record») ⌝ }
 {
-    let at = text::put_bytes(b"refused ", out, 0);
-    text::put_line(number, &[table, record], out, at)
+    text::put_word_line(b"refused", &[number, table, record], out, 0)
 }

@@ -112,10 +112,10 @@ fn put_all(book: &[u64], out: &mut [u8], at: usize) -> usize
     ensures { λ _. ⌜ now (out .exit) ≡ sets (now (out .entry)) at (allLine (classTotal (now (book .entry)))) ⌝ }
 {
     let t = book::class_total_sound(book);
-    let end = text::put_bytes(b"all", out, at);
-    text::put_line_end(
+    text::put_word_line(
+        b"all",
         &[t.elements, t.waiting, t.operation, t.provision, t.total],
         out,
-        end,
+        at,
     )
 }

@@ -1,10 +1,10 @@
-// Text put into a buffer at a position: bytes, numbers in decimal, lines of numbers and their ends. What puts answers the position behind
+// Text put into a buffer at a position: bytes, numbers in decimal, and lines of numbers. What puts answers the position behind
 // what it put.
 ghost use mathlib.Core.Path.{_≡_};
 ghost use Prim.Native.Nat.{_+_, _≤_};
 ghost use lib.ListN.{length};
 ghost use lib.Seq.{sets};
-ghost use Rattle.report.specs.Text.{decimal, lineEnd, line};
+ghost use Rattle.report.specs.Text.{decimal, lineEnd, line, wordLine};
 
 // Puts bytes.
 pub fn put_bytes(bytes: &[u8], out: &mut [u8], at: usize) -> usize
@@ -61,8 +61,18 @@ pub fn put_line(first: u64, rest: &[u64], out: &mut [u8], at: usize) -> usize
     put_line_end(rest, out, end)
 }
 
+// Puts a line that begins with a word.
+pub fn put_word_line(word: &[u8], numbers: &[u64], out: &mut [u8], at: usize) -> usize
+    requires { ⌜ at + length (wordLine (now word) (now numbers)) ≤ length (now out) ⌝ }
+    ensures { λ r. ⌜ r ≡ at + length (wordLine (now (word .entry)) (now (numbers .entry))) ⌝ }
+    ensures { λ _. ⌜ now (out .exit) ≡ sets (now (out .entry)) at (wordLine (now (word .entry)) (now (numbers .entry))) ⌝ }
+{
+    let end = put_bytes(word, out, at);
+    put_line_end(numbers, out, end)
+}
+
 // Puts the end of a line: numbers, each behind a space, and the newline.
-pub fn put_line_end(numbers: &[u64], out: &mut [u8], at: usize) -> usize
+fn put_line_end(numbers: &[u64], out: &mut [u8], at: usize) -> usize
     requires { ⌜ at + length (lineEnd (now numbers)) ≤ length (now out) ⌝ }
     ensures { λ r. ⌜ r ≡ at + length (lineEnd (now (numbers .entry))) ⌝ }
     ensures { λ _. ⌜ now (out .exit) ≡ sets (now (out .entry)) at (lineEnd (now (numbers .entry))) ⌝ }

@@ -14,7 +14,7 @@ pub record NextUsed (ws : List ℕ) (after next : ℕ) : Type 0 where
   pub used : next ≤ mostChains → isUsed ws next ≡ true
   pub none-between : (chain : ℕ) → after < chain → chain < next → isUsed ws chain ≡ false
 
--- the most bytes of the line of a refusal: the word's 8, three numbers of 20 digits, two spaces and the newline
+-- the most bytes of the line of a refusal: the word's 7, three numbers of 20 digits, three spaces and the newline
 abbrev pub refusedRoom : ℕ
 refusedRoom = 71
 
