@@ -3,7 +3,7 @@
 use mathlib.Core.Bool.{true, false, cond, _&&_, Bool, not, Bool·not-not}
 use mathlib.Core.List.{List}
 use mathlib.Core.Logic.{_⊎_, ⊎-elim}
-use mathlib.Core.Path.{_≡_, refl, ap, sym, _∙_, fun-ext}
+use mathlib.Core.Path.{_≡_, refl, ap, sym, fun-ext}
 use Prim.Native.Nat.{ℕ, _≤_, _<_, _+_}
 use native.Mathlib.Nat.{add-zero, eq-zero-or-pos}
 use native.Mathlib.Omega.{arith}

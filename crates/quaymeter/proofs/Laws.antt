@@ -9,7 +9,7 @@ use Rattle.conservation.specs.declared.Call.{Call}
 use Rattle.conservation.specs.Runs.{runOf}
 use Rattle.conservation.proofs.Laws.{conserved, total-conserved}
 use Rattle.book_file.specs.Answers.{numbersOf}
-use Rattle.book_file.specs.Conserving.{callsOf, callsAccepted}
+use Rattle.book_file.specs.Conserving.{callsOf}
 use Rattle.book_file.specs.Loading.{tasksOf, loadAnswer, loadBook}
 use Rattle.book_file.specs.declared.answers.Load.{Load}
 use Rattle.book_file.specs.declared.answers.Load.the-variants.{Loaded}

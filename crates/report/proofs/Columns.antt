@@ -1,24 +1,21 @@
 -- The class total is the sum of each column over the printed lines. Assumes nothing.
-use Prim.Native.Nat.{ℕ, zero, suc, _+_, _<_}
+use Prim.Native.Nat.{ℕ, _+_, _<_}
 use native.Mathlib.Omega.{arith}
 use mathlib.Core.Bool.{Bool, true, false, cond, _&&_}
 use mathlib.Core.List.{List, [], _∷_}
 use mathlib.Core.Path.{_≡_, refl, sym, _∙_, ap}
-use borrow.Author.Tests.{eq-eqb, le-leb, ltb-false}
-use lib.Dec.{ltb, leb}
+use borrow.Author.Tests.{le-leb}
+use lib.Dec.{leb}
 use Rattle.apportion.specs.Places.{sumBelow, oneIf}
-use Rattle.apportion.proofs.Sums.{sum-cong, sum-add, sum-more, sum-next}
+use Rattle.apportion.proofs.Sums.{sum-cong, sum-add}
 use Rattle.book.specs.ClassTotal.{overElements, classTotal}
 use Rattle.book.specs.Statements.{ofChain, waits, elementsOn, waitingOn, sharesOn, statementOf, zerosBeside}
 use Rattle.book.specs.declared.replies.Statement.{Statement}
 use Rattle.book.proofs.Laws.{statement-accepted, statement-unused}
 use Rattle.book_words.specs.Book.{elements, elementAt}
-use Rattle.book_words.specs.Measures.{isChain, mostChains}
+use Rattle.book_words.specs.Measures.{mostChains}
 use Rattle.book_words.specs.Soundness.{sound}
-use Rattle.book_words.specs.Totals.{shareOf}
 use Rattle.book_words.specs.declared.records.Element.{Element}
-use Rattle.book_words.specs.declared.totals.Side.{Side}
-use Rattle.book_words.specs.declared.totals.Side.the-variants.{Operation as operation, Provision as provision}
 use Rattle.book_words.proofs.Booleans.{and-both}
 use Rattle.book_words.proofs.ShareSums.{sum-by-chain}
 use Rattle.report.specs.Sheet.{isUsed, statementNumbers, columnSum, columnSums}

@@ -5,9 +5,8 @@ use mathlib.Core.Bool.{Bool, true, false, cond}
 use mathlib.Core.List.{List, [], _∷_, _++_, append-nil, append-assoc}
 use mathlib.Core.Path.{_≡_, refl, sym, _∙_, ap}
 use borrow.Author.Tests.{ne-eqb, lt-ltb, le-ltb}
-use lib.Dec.{ltb, eqb}
+use lib.Dec.{ltb}
 use lib.ListN.{take}
-use Rattle.apportion.specs.Places.{oneIf}
 use Rattle.book.specs.ClassTotal.{classTotal}
 use Rattle.book.specs.Statements.{statementOf}
 use Rattle.book.specs.declared.replies.Statement.{Statement}

@@ -19,7 +19,6 @@ use Rattle.book.proofs.Laws.{StatementWithin, statement-within, class-total-wit
 use Rattle.book_words.specs.Book.{elements}
 use Rattle.book_words.specs.Measures.{mostChains}
 use Rattle.book_words.specs.Soundness.{sound}
-use Rattle.book_words.proofs.SoundTests.{sound-counted}
 use Rattle.report.specs.Text.{decimal, spaced, lineEnd, line, wordLine}
 use Rattle.report.specs.Inner.Steps.{NextUsed}
 use Rattle.report.specs.Sheet.{heading, isUsed, statementNumbers, chainLine, linesTo, chainLines, allWord, allLine, sheetText, sheetRoom}

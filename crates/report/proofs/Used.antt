@@ -1,19 +1,17 @@
 -- Used chains: what a walk over the elements holds of the next one; and unused ones. Assumes nothing.
-use Prim.Native.Nat.{ℕ, zero, suc, _+_, _≤_, _<_}
+use Prim.Native.Nat.{ℕ, suc, _+_, _≤_, _<_}
 use native.Mathlib.Omega.{arith}
-use mathlib.Core.Bool.{Bool, true, false, true≢false, cond, _&&_}
+use mathlib.Core.Bool.{true, false, true≢false, _&&_}
 use mathlib.Core.List.{List}
 use mathlib.Core.Path.{_≡_, refl, sym, _∙_}
-use lib.Dec.{eqb, ltb}
+use lib.Dec.{ltb}
 use borrow.Author.Tests.{lt-ltb, eq-eqb, ne-eqb, ltb-true, ltb-false}
-use Rattle.apportion.specs.Places.{sumBelow, countBelow, oneIf}
-use Rattle.apportion.proofs.Sums.{sum-next, sum-more, sum-cong}
+use Rattle.apportion.specs.Places.{countBelow, oneIf}
+use Rattle.apportion.proofs.Sums.{sum-next, sum-more}
 use Rattle.book.specs.Statements.{elementsOn, ofChain}
 use Rattle.book_words.specs.Book.{elements, elementAt}
 use Rattle.book_words.specs.Measures.{mostChains}
-use Rattle.book_words.specs.Soundness.{sound}
 use Rattle.book_words.proofs.Booleans.{both, and-both}
-use Rattle.book_words.proofs.ShareSums.{sum-by-chain}
 use Rattle.report.specs.Inner.Steps.{NextUsed}
 use Rattle.report.specs.Sheet.{isUsed}
 

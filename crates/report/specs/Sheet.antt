@@ -64,6 +64,10 @@ allLine total = wordLine allWord (statementNumbers total)
 unfoldable pub sheetText : List ℕ → List ℕ
 sheetText ws = (heading ++ chainLines ws) ++ allLine (classTotal ws)
 
+-- room enough for it: the heading's 49 bytes, 74 for each of at most 256 lines, and 72 for the last
+abbrev pub sheetRoom : ℕ
+sheetRoom = 19_065
+
 -- the sum of a column over the printed lines, which are those of the used chains
 abbrev pub columnSum : List ℕ → (Statement → ℕ) → ℕ
 columnSum ws column = sumBelow mostChains (λ j. cond (isUsed ws (j + 1)) (column (statementOf ws (j + 1))) 0)
@@ -77,10 +81,6 @@ columnSums ws =
     ∷ columnSum ws (λ s. s .provision)
     ∷ columnSum ws (λ s. s .total)
     ∷ []
-
--- room enough for it: the heading's 49 bytes, 74 for each of at most 256 lines, and 72 for the last
-abbrev pub sheetRoom : ℕ
-sheetRoom = 19_065
 
 -- "1. .. the book is not sound."
 abbrev pub sheetGrounds : List ℕ → List Ground

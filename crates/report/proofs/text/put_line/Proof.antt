@@ -1,6 +1,5 @@
 -- `report::text::put_line` meets its contract: its first number, and the end of the line. Assumes nothing.
 use native.Mathlib.Omega.{arith}
-use borrow.Author.Needs.{needs}
 use lib.ListN.{length-append}
 use Rattle.report.specs.Text.{decimal, lineEnd, line}
 use Rattle.report.proofs.Stores.{then-room, then-kept, then-stored}
