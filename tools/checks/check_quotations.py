@@ -28,7 +28,7 @@ TRACE = "docs/TRACE.md"
 
 # What the programs print, as the definitions of their bytes spell it.
 PRINTED = ("chain ", "elements ", "waiting ", "operation ", "provision ",
-           "total", "all ", "refused ", "bad record ")
+           "total", "bad record ")
 
 UNPAIRED = "a quotation mark without its pair"
 

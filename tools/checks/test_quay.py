@@ -472,8 +472,8 @@ def whole_sheets():
         check(session.answer(playing.request_of("sheet")) == table, "again")
     check(len(session.ledger.answers) == 2, "its statements are not kept")
     answered("sheet", "chain  elements  waiting  operation t  provision t  "
-             "total t\n  all         0        0            0            0        "
-             "0\nno element is in this book, so no chain has a line")
+             "total t\n  all         0        0            0            0   "
+             "     0\nno element is in this book, so no chain has a line")
     lines = answers("open 1", "open 4", POST.replace("category 1",
                                                      "category 2"),
                     ENROL, "sheet")[-1]
@@ -898,10 +898,23 @@ def with_sheet(change):
                     CALCULATED.replay)
 
 
+def told_loudly(old, new, what):
+    """A sheet with this for that is a difference: it is told loudly, and no
+    number is shown."""
+    wrong = with_sheet(lambda output: output.replace(old, new))
+    check(run("sheet", "-", text=NAMED, programs=with_sheet(
+        lambda output: output))[0] == 0, "the same")
+    status, output, told = run("sheet", "-", text=NAMED, programs=wrong)
+    check((status, output) == (4, "") and what in told and told.startswith(
+        "!" * 70 + "\nTHE PROVED PROGRAM AND WHAT IS RECKONED HERE DIFFER:"
+        "\n") and told.endswith("\nTrust neither before this is cleared "
+                                "up.\n" + "!" * 70 + "\n"), "loudly",
+        told)
+
+
 def differences():
-    """Each difference is told loudly, and no number is shown."""
+    """Of the heading, of the lines of chains, and of a refusal."""
     row = b"7 3 2 2 233333333 233333335"
-    total = b"all 5 3 7 700000000 700000007"
     for old, new, what in (
         (b"chain elements", b"chains elements", "quaymeter says `chains"),
         *((row, wrong, "quaymeter prints `%s`, and replay states `%s`"
@@ -917,37 +930,8 @@ def differences():
         (DOCUMENT_SHEET.encode()[:5], b"refused 3 1 1\nchain",
          "quaymeter says `refused 3 1 1`, and replay `0 0 0`"),
         (b"chain elements", b"refused x y", "a program prints `x y"),
-        *((total, wrong, "quaymeter prints `%s`, and its lines and the book's "
-           "elements add up to `%s`" % (wrong.decode(), total.decode()))
-          for wrong in (
-              b"all 6 3 7 700000000 700000007", b"all 5 2 7 700000000 700000007",
-              b"all 5 3 8 700000000 700000007", b"all 5 3 7 700000001 700000007",
-              b"all 5 3 7 700000000 700000008", b"all 3 2 7 700000000 700000007",
-              b"all 0 0 0 0 0")),
-        # None, without its word, of four or six numbers or of others, twice,
-        # not the last.
-        (total + b"\n", b"", "the sheet ends with `9999 1 1 0 0 0`, where "
-         "`all` and five sums were expected"),
-        (total, b"", "the sheet ends with ``, where `all`"),
-        *((total, wrong, "the sheet ends with `%s`, where `all` and five sums "
-           "were expected" % wrong.decode()) for wrong in (
-               total[4:], b"ALL" + total[3:], b"all", total[:-10],
-               total + b" 0")),
-        (total, b"all 5 3 x 0 0", "a program prints `5 3 x 0 0`"),
-        (total, total + b"\n" + total, "a program prints `%s`, where numbers "
-         "were expected" % total.decode()),
-        (total, total + b"\n10000 1 0 0 0 0", "the sheet ends with `10000 1 0 "
-         "0 0 0`, where `all`"),
     ):
-        wrong = with_sheet(lambda output: output.replace(old, new))
-        check(run("sheet", "-", text=NAMED, programs=with_sheet(
-            lambda output: output))[0] == 0, "the same")
-        status, output, told = run("sheet", "-", text=NAMED, programs=wrong)
-        check((status, output) == (4, "") and what in told and told.startswith(
-            "!" * 70 + "\nTHE PROVED PROGRAM AND WHAT IS RECKONED HERE DIFFER:"
-            "\n") and told.endswith("\nTrust neither before this is cleared "
-                                    "up.\n" + "!" * 70 + "\n"), "loudly",
-            told)
+        told_loudly(old, new, what)
     for wrong, text, what in (
         (lambda output: b"", NAMED, "quaymeter says ``, and replay `0 0 0`"),
         (lambda output: output.splitlines(True)[0], b"category kind 1",
@@ -961,6 +945,51 @@ def differences():
         status, output, told = run("sheet", "-", text=text,
                                    programs=with_sheet(wrong))
         check((status, output) == (4, "") and what in told, "loudly", told)
+
+
+def differences_of_total():
+    """Of the last line: other sums; none, without its word, of four or six
+    numbers or of others, twice, not the last."""
+    total = b"all 5 3 7 700000000 700000007"
+    for old, new, what in (
+        *((total, b"all " + wrong, "quaymeter prints `all %s`, and its lines "
+           "and the book's elements add up to `%s`"
+           % (wrong.decode(), total.decode())) for wrong in (
+               b"6 3 7 700000000 700000007", b"5 2 7 700000000 700000007",
+               b"5 3 8 700000000 700000007", b"5 3 7 700000001 700000007",
+               b"5 3 7 700000000 700000008", b"3 2 7 700000000 700000007",
+               b"0 0 0 0 0")),
+        (total + b"\n", b"", "the sheet ends with `9999 1 1 0 0 0`, where "
+         "`all` and five sums were expected"),
+        (total, b"", "the sheet ends with ``, where `all`"),
+        *((total, wrong, "the sheet ends with `%s`, where `all` and five sums "
+           "were expected" % wrong.decode()) for wrong in (
+               total[4:], b"ALL" + total[3:], b"all", total[:-10],
+               total + b" 0")),
+        (total, b"all 5 3 x 0 0", "a program prints `5 3 x 0 0`"),
+        (total, total + b"\n" + total, "a program prints `%s`, where numbers "
+         "were expected" % total.decode()),
+        (total, total + b"\n10000 1 0 0 0 0", "the sheet ends with `10000 1 0 "
+         "0 0 0`, where `all`"),
+    ):
+        told_loudly(old, new, what)
+
+
+def differences_of_form():
+    """The right numbers, written otherwise than the program writes them."""
+    row = b"7 3 2 2 233333333 233333335"
+    total = b"all 5 3 7 700000000 700000007"
+    for line, wrong in (
+        (total, total.replace(b" 5", b"  5")), (total, total + b" "),
+        (total, total.replace(b" 5", b" 05")),
+        (total, total.replace(b" 5", b" +5")),
+        (total, total.replace(b"700000000", b"700_000_000")),
+        (total + b"\n", total), (row, row.replace(b" 3", b"  3")),
+        (row, b" " + row), (row, b"0" + row),
+    ):
+        told_loudly(line, wrong, "quaymeter prints `%s`, where `%s` and a "
+                    "newline were expected" % (
+                        wrong.decode(), line.decode().rstrip("\n")))
 
 
 def differences_of_answers():
@@ -1177,6 +1206,8 @@ terminals()
 prompts()
 unavailable()
 differences()
+differences_of_total()
+differences_of_form()
 differences_of_answers()
 differences_of_calls()
 outputs()

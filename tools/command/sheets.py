@@ -7,7 +7,7 @@ from collections import Counter, namedtuple
 from calculation.book import unstruck
 from calculation.sheet import ALL, HEADING, class_total, used_chains
 from command.amounts import LEFT, POINT, RIGHT, aligned, counted, tonnes
-from command.fields import shown
+from command.fields import printable, shown
 from command.ledger import in_line, lines_of, loaded, numbers_in
 from command.naming import with_name
 from command.programs import Differs
@@ -53,6 +53,7 @@ class Sheet:
             raise Differs("quaymeter prints `%s`, and its lines and the book's "
                           "elements add up to `%s`" % (shown(last),
                                                        in_line(total)))
+        compare_form(self.printed, [HEADING, *map(in_line, self.shown_rows)])
 
     def rows_of(self, lines):
         rows = [numbers_in(line) for line in lines]
@@ -82,6 +83,14 @@ def sums_in(line):
         raise Differs("the sheet ends with `%s`, where `%s` and five sums were "
                       "expected" % (shown(line), ALL))
     return numbers
+
+
+def compare_form(printed, expected):
+    """The sheet has these lines, sign by sign, each with its newline."""
+    for line, own in zip(printed.splitlines(True), expected):
+        if line != own + "\n":
+            raise Differs("quaymeter prints `%s`, where `%s` and a newline "
+                          "were expected" % (printable(line.rstrip("\n")), own))
 
 
 def with_total(rows, ledger):

@@ -19,8 +19,8 @@ use Rattle.book_words.specs.declared.totals.Side.the-variants.{Operation as ope
 use Rattle.book_words.specs.Totals.{mostEmissions, shareOf}
 use Rattle.book.specs.declared.replies.Statement.{Statement}
 use Rattle.book.specs.ClassTotal.{classTotal}
-use Rattle.book.specs.Inner.Chains.{ofChains, sharesOver, statementOver}
-use Rattle.book.specs.Statements.{elementsOn, waitingOn, sharesOn, waits, ofChain, statementOf}
+use Rattle.book.specs.Inner.Chains.{ofChains, statementOver}
+use Rattle.book.specs.Statements.{sharesOver, elementsOn, waitingOn, sharesOn, waits, ofChain, statementOf}
 use Rattle.book_words.specs.declared.records.Category.{Category}
 use Rattle.book_words.specs.declared.records.Element.{Element}
 use Rattle.apportion.proofs.Sums.{order, sum-next, sum-le, sum-cong, sum-add, sum-more, count-most}

@@ -23,16 +23,25 @@ ofChain chain e = eqb (e .chain) chain
 abbrev pub waits : List ℕ → Element → Bool
 waits ws e = not (eqb (e .category) 0) && not (isClosed ws (e .category))
 
+-- over the elements that pass a test: how many there are, how many of them wait, and their shares of a side
+abbrev pub elementsOver : List ℕ → (Element → Bool) → ℕ
+elementsOver ws test = countBelow (elements ws) (λ p. test (elementAt ws p))
+
+abbrev pub waitingOver : List ℕ → (Element → Bool) → ℕ
+waitingOver ws test = countBelow (elements ws) (λ p. test (elementAt ws p) && waits ws (elementAt ws p))
+
+abbrev pub sharesOver : List ℕ → (Element → Bool) → Side → ℕ
+sharesOver ws test side = sumBelow (elements ws) (λ p. cond (test (elementAt ws p)) (shareOf side (elementAt ws p)) 0)
+
 -- "counted and added over the elements of that chain alone": elements, waiting, and the shares of a side
 unfoldable pub elementsOn : List ℕ → ℕ → ℕ
-elementsOn ws chain = countBelow (elements ws) (λ p. ofChain chain (elementAt ws p))
+elementsOn ws chain = elementsOver ws (ofChain chain)
 
 unfoldable pub waitingOn : List ℕ → ℕ → ℕ
-waitingOn ws chain = countBelow (elements ws) (λ p. ofChain chain (elementAt ws p) && waits ws (elementAt ws p))
+waitingOn ws chain = waitingOver ws (ofChain chain)
 
 unfoldable pub sharesOn : List ℕ → ℕ → Side → ℕ
-sharesOn ws chain side =
-    sumBelow (elements ws) (λ p. cond (ofChain chain (elementAt ws p)) (shareOf side (elementAt ws p)) 0)
+sharesOn ws chain side = sharesOver ws (ofChain chain) side
 
 abbrev pub statementGrounds : List ℕ → ℕ → List Ground
 statementGrounds ws chain =

@@ -34,7 +34,7 @@ pub fn statement_sound(book: &[u64], chain: u64) -> Statement
     walk(book, chain, chain)
 }
 
-// The class total of a book that is known to be sound, all of whose elements are on these chains.
+// The class total of a book that is known to be sound: all its elements are on the chains from 1 to 10,000.
 pub fn class_total_sound(book: &[u64]) -> Statement
     requires { ⌜ sound (now book) ≡ true ⌝ }
     ensures { λ r. ⌜ r ≡ classTotal (now (book .entry)) ⌝ }

@@ -35,6 +35,7 @@ module _ (file : List ℕ) (loaded : loadAnswer zeroWords file ≡ Loaded) where
 
 -- Demand 3, of what is printed for every file that is loaded.
 pub printed-conserved : PrintedConservation
+unfolding allLine
 printed-conserved file loaded =
     let calls = callsOf (tasksOf file) in
     let long : bookLength ≤ length zeroWords = omega (arith, length-replicate {A = ℕ} bookLength 0) in

@@ -1,5 +1,5 @@
 -- "The program reads standard input and prints the heading and one line per used chain, ascending, or `refused` with number, table
--- (0 header) and record (0). A refused file prints that line only". Assumes nothing.
+-- (0 header) and record (0). A refused file prints that line only". The last line of a sheet is the request's. Assumes nothing.
 use Prim.Native.Nat.{ℕ}
 use mathlib.Core.List.{List}
 use lib.ListN.{replicate}

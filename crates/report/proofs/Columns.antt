@@ -21,7 +21,7 @@ use Rattle.book_words.proofs.ShareSums.{sum-by-chain}
 use Rattle.report.specs.Sheet.{isUsed, statementNumbers, columnSum, columnSums}
 use Rattle.report.proofs.Used.{unused-none}
 
--- what passes the test is counted, or where it passes another too, or added
+-- a count, a count of what passes another test too, and two sums, as sums of what passes the test
 one-of : (own : Bool) → oneIf own ≡ cond own 1 0
 one-of true = refl
 one-of false = refl

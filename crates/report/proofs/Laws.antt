@@ -14,7 +14,10 @@ use Rattle.book_words.specs.Soundness.{sound}
 use Rattle.report.specs.declared.printing.Printed.{Printed}
 use Rattle.report.specs.declared.printing.Printed.the-variants.{Written, TooSmall, Refused}
 use Rattle.report.specs.Printing.{printedNumbers, answerFor, numbersFor, bufferWith}
-use Rattle.report.specs.Sheet.{sheetText, sheetRefusal, sheetAnswer, sheetNumbers, sheetBuffer}
+use Rattle.report.specs.Sheet.{allWord, allLine, sheetText, columnSums, sheetRefusal, sheetAnswer, sheetNumbers, sheetBuffer}
+use Rattle.report.specs.Text.{wordLine, lastLine}
+use Rattle.report.proofs.Columns.{class-total-of-lines}
+use Rattle.report.proofs.LastLine.{sheet-last-line}
 pub use Rattle.report.proofs.Columns.{class-total-of-lines}
 pub use Rattle.report.proofs.LastLine.{sheet-last-line}
 pub use Rattle.report.proofs.Lines.{sheet-fits, refused-fits}
@@ -57,6 +60,11 @@ module _ (ws : List ℕ) where
       go : (n : ℕ) → printedNumbers (accepted n (answerFor (sheetText ws) room) (Refused n)) ≡ numbersFor n (sheetText ws) room
       go zero = answer-numbers (sheetText ws) room (answerFor (sheetText ws) room) refl
       go (suc n) = refl
+
+  -- the last line of a sheet has the sums of its columns
+  pub last-of-lines : sound ws ≡ true → lastLine (sheetText ws) ≡ wordLine allWord (columnSums ws)
+  unfolding allLine
+  last-of-lines fine = sheet-last-line ws ∙ ap (wordLine allWord) (class-total-of-lines ws fine)
 
   -- what was printed of its text is what is printed of a sound book
   pub sheet-given : (buffer : List ℕ) {answer : Printed} {after : List ℕ} → sound ws ≡ true

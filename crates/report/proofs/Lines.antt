@@ -76,7 +76,7 @@ end-of-five a b c d e = simp length-append (omega arith)
 end-of-three : (a b c : ℕ) → length (lineEnd (a ∷ b ∷ c ∷ [])) ≡ length (decimal a) + length (decimal b) + length (decimal c) + 4
 end-of-three a b c = simp length-append (omega arith)
 
--- so the end of a line with the numbers of a statement
+-- so the end of a line with the numbers of a statement has at most 69 bytes
 end-most : (s : Statement) → StatementWithin s → length (lineEnd (statementNumbers s)) ≤ endRoom
 end-most s within =
     omega (
@@ -89,7 +89,7 @@ end-most s within =
       digits-most 18 (s .total) (omega (arith, within)),
     )
 
--- and the line of a refusal have room
+-- and the line of a refusal has room
 pub refused-fits : (number table recordNumber : ℕ) → length (refusedText number table recordNumber) ≤ refusedRoom
 unfolding refusedText refusedWord wordLine
 refused-fits number table recordNumber =

@@ -1,4 +1,4 @@
--- Text as bytes of ASCII: numbers in decimal, and lines of them. Assumes nothing.
+-- Text as bytes of ASCII: numbers in decimal, lines of them, also behind a word, and the last line. Assumes nothing.
 use Prim.Native.Nat.{ℕ, zero, suc, _+_, _/_, _%_}
 use mathlib.Core.Bool.{cond}
 use mathlib.Core.List.{List, [], _∷_, _++_}

@@ -1,4 +1,4 @@
-// Text put into a buffer at a position: bytes, numbers in decimal, and lines of numbers. What puts answers the position behind
+// Text put into a buffer at a position: bytes, numbers in decimal, and lines of numbers, also behind a word. What puts answers the position behind
 // what it put.
 ghost use mathlib.Core.Path.{_≡_};
 ghost use Prim.Native.Nat.{_+_, _≤_};

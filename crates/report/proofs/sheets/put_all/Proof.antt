@@ -19,10 +19,10 @@ slice-aggregate-put-word-line c = search needs
 slice-aggregate-put-word-line-2 : tie.Need-slice-aggregate-put-word-line-2
 slice-aggregate-put-word-line-2 c = search needs
 
--- the line is that of the class total
 abbrev start : tie.After-class-total-sound → tie.Start
 start c = c .before .before .before
 
+-- the line is that of the class total
 is-line : (c : tie.After-class-total-sound)
     → wordLine allWord (statementNumbers (c .class-total-sound .result)) ≡ allLine (classTotal (start c .args .book .now))
 unfolding allLine
