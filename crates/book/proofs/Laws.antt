@@ -29,7 +29,7 @@ use Rattle.book.specs.declared.arguments.PostArguments.{PostArguments}
 use Rattle.book.specs.declared.arguments.QuoteArguments.{QuoteArguments}
 use Rattle.book.specs.Calls.{cleared, freshRefusal, freshBook, openRefusal, openBook, postRefusal, postBook, postedEntry}
 use Rattle.book.specs.Calls.{quoteInRange, strikeRefusal, strikeBook, enrolRefusal, enrolBook, enrolledElement, quoteRefusal, quoteBook, quotedElement}
-use Rattle.book.specs.Statements.{ofChain, waits, elementsOn, waitingOn, sharesOn, zerosBeside, statementOf, statementRefusal, statementReply}
+use Rattle.book.specs.Statements.{ofChain, waits, elementsOver, waitingOver, sharesOver, zerosBeside, statementOf, statementRefusal, statementReply}
 use Rattle.apportion.proofs.Grounds.{or-none, refused-old, either}
 use Rattle.apportion.proofs.Sums.{sum-zero}
 use Rattle.apportion.proofs.Lists.{filled, filled-length, list-length, list-at}
@@ -287,10 +287,10 @@ module _ (ws : List ℕ) where
     -- "zeros for an unused chain"
     pub statement-unused : sound ws ≡ true → isChain chain ≡ true → ((p : ℕ) → p < elements ws → elementAt ws p .chain ≡ chain → ⊥)
         → statementReply ws chain ≡ zerosBeside 0
-    unfolding statementOf elementsOn waitingOn sharesOn
+    unfolding statementOf elementsOver waitingOver sharesOver
     statement-unused fine known unused =
         let none : (p : ℕ) → p < elements ws → ofChain chain (elementAt ws p) ≡ false = λ p h. ne-eqb (elementAt ws p .chain) chain (unused p h) in
-        let nothing : (side : Side) → sharesOn ws chain side ≡ 0 =
+        let nothing : (side : Side) → sharesOver ws (ofChain chain) side ≡ 0 =
         λ side. sum-zero (elements ws) (λ p. cond (ofChain chain (elementAt ws p)) (shareOf side (elementAt ws p)) 0) (λ p h. rw (none p h)) in
         statement-accepted fine known
         ∙ rw (

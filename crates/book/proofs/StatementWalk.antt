@@ -19,8 +19,8 @@ use Rattle.book_words.specs.declared.totals.Side.the-variants.{Operation as ope
 use Rattle.book_words.specs.Totals.{mostEmissions, shareOf}
 use Rattle.book.specs.declared.replies.Statement.{Statement}
 use Rattle.book.specs.ClassTotal.{classTotal}
-use Rattle.book.specs.Inner.Chains.{ofChains, statementOver}
-use Rattle.book.specs.Statements.{sharesOver, elementsOn, waitingOn, sharesOn, waits, ofChain, statementOf}
+use Rattle.book.specs.Inner.Chains.{ofChains}
+use Rattle.book.specs.Statements.{elementsOver, waitingOver, sharesOver, statementOver, waits, ofChain, statementOf}
 use Rattle.book_words.specs.declared.records.Category.{Category}
 use Rattle.book_words.specs.declared.records.Element.{Element}
 use Rattle.apportion.proofs.Sums.{order, sum-next, sum-le, sum-cong, sum-add, sum-more, count-most}
@@ -120,12 +120,14 @@ module _ (ws : List ℕ) (test : Element → Bool) where
       → _≡_ {A = Statement}
       (record { refusal = 0; elements = counted; waiting = waiting; operation = byOperation; provision = byProvision; total = byOperation + byProvision })
       (statementOver ws test)
+  unfolding elementsOver waitingOver sharesOver
   walked-done {n} w h =
       let end : n ≡ elements ws = omega (arith, w .inside) in
       rw (w .all-counted, w .all-waiting, w .all-operation, w .all-provision, end)
 
   -- so that statement is within the limits of a book
   over-within : sound ws ≡ true → StatementWithin (statementOver ws test)
+  unfolding elementsOver waitingOver sharesOver
   over-within fine =
       let few = sound-counted ws fine in
       let all : Walked ws test (elements ws) _ _ _ _ =
@@ -154,12 +156,12 @@ from-itself chain n =
 
 -- so the statement over them is the chain's
 pub over-chain : (ws : List ℕ) (chain : ℕ) → statementOver ws (ofChains chain chain) ≡ statementOf ws chain
-unfolding statementOf elementsOn waitingOn sharesOn
+unfolding statementOf
 over-chain ws chain = ap (statementOver ws) (fun-ext (λ e. from-itself chain (e .chain)))
 
 -- and the statement over the chains from 1 to 10,000 is the class total
 pub over-all : (ws : List ℕ) → sound ws ≡ true → statementOver ws (ofChains 1 mostChains) ≡ classTotal ws
-unfolding classTotal
+unfolding classTotal elementsOver waitingOver sharesOver
 over-all ws fine =
     rw (
       sum-cong n (λ p. oneIf (own p)) (λ p. 1) (λ p h. rw (all p h)),
@@ -185,7 +187,7 @@ over-all ws fine =
 
 -- so both are within the limits of a book, and fit in 64 bits
 pub statement-within : (ws : List ℕ) (chain : ℕ) → sound ws ≡ true → StatementWithin (statementOf ws chain)
-unfolding statementOf elementsOn waitingOn sharesOn
+unfolding statementOf
 statement-within ws chain fine = over-within ws (ofChain chain) fine
 
 pub class-total-within : (ws : List ℕ) → sound ws ≡ true → StatementWithin (classTotal ws)

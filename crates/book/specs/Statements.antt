@@ -23,25 +23,27 @@ ofChain chain e = eqb (e .chain) chain
 abbrev pub waits : List ℕ → Element → Bool
 waits ws e = not (eqb (e .category) 0) && not (isClosed ws (e .category))
 
--- over the elements that pass a test: how many there are, how many of them wait, and their shares of a side
-abbrev pub elementsOver : List ℕ → (Element → Bool) → ℕ
+-- "counted and added over" the elements that pass a test: how many there are, how many of them wait, and their shares of a side
+unfoldable pub elementsOver : List ℕ → (Element → Bool) → ℕ
 elementsOver ws test = countBelow (elements ws) (λ p. test (elementAt ws p))
 
-abbrev pub waitingOver : List ℕ → (Element → Bool) → ℕ
+unfoldable pub waitingOver : List ℕ → (Element → Bool) → ℕ
 waitingOver ws test = countBelow (elements ws) (λ p. test (elementAt ws p) && waits ws (elementAt ws p))
 
-abbrev pub sharesOver : List ℕ → (Element → Bool) → Side → ℕ
+unfoldable pub sharesOver : List ℕ → (Element → Bool) → Side → ℕ
 sharesOver ws test side = sumBelow (elements ws) (λ p. cond (test (elementAt ws p)) (shareOf side (elementAt ws p)) 0)
 
--- "counted and added over the elements of that chain alone": elements, waiting, and the shares of a side
-unfoldable pub elementsOn : List ℕ → ℕ → ℕ
-elementsOn ws chain = elementsOver ws (ofChain chain)
-
-unfoldable pub waitingOn : List ℕ → ℕ → ℕ
-waitingOn ws chain = waitingOver ws (ofChain chain)
-
-unfoldable pub sharesOn : List ℕ → ℕ → Side → ℕ
-sharesOn ws chain side = sharesOver ws (ofChain chain) side
+-- "elements, waiting (those in open categories), operation, provision, total (operation plus provision)", over these elements
+abbrev pub statementOver : List ℕ → (Element → Bool) → Statement
+statementOver ws test =
+    record {
+      refusal = 0;
+      elements = elementsOver ws test;
+      waiting = waitingOver ws test;
+      operation = sharesOver ws test operation;
+      provision = sharesOver ws test provision;
+      total = sharesOver ws test operation + sharesOver ws test provision;
+    }
 
 abbrev pub statementGrounds : List ℕ → ℕ → List Ground
 statementGrounds ws chain =
@@ -52,17 +54,9 @@ statementGrounds ws chain =
 unfoldable pub statementRefusal : List ℕ → ℕ → ℕ
 statementRefusal ws chain = firstOf (statementGrounds ws chain)
 
--- what an accepted statement answers
+-- what an accepted statement answers, "over the elements of that chain alone"
 unfoldable pub statementOf : List ℕ → ℕ → Statement
-statementOf ws chain =
-    record {
-      refusal = 0;
-      elements = elementsOn ws chain;
-      waiting = waitingOn ws chain;
-      operation = sharesOn ws chain operation;
-      provision = sharesOn ws chain provision;
-      total = sharesOn ws chain operation + sharesOn ws chain provision;
-    }
+statementOf ws chain = statementOver ws (ofChain chain)
 
 -- zeros beside this refusal number; "A refusal returns its number with zeros"
 abbrev pub zerosBeside : ℕ → Statement

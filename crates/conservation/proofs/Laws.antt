@@ -18,7 +18,7 @@ use Rattle.book_words.specs.Totals.{shareOf, sharesOf}
 use Rattle.book_shares.specs.Shares.{exactOf}
 use Rattle.book.specs.Calls.{openReply, postReply, enrolReply, quoteReply}
 use Rattle.book.specs.ClassTotal.{overElements, classTotal}
-use Rattle.book.specs.Statements.{statementReply, statementOf, elementsOn, waitingOn, sharesOn, ofChain, waits}
+use Rattle.book.specs.Statements.{statementReply, statementOf, elementsOver, waitingOver, sharesOver, ofChain, waits}
 use Rattle.apportion.proofs.Grounds.{either}
 use Rattle.apportion.proofs.Sums.{sum-add, sum-cong}
 use Rattle.book_words.proofs.Booleans.{and-both}
@@ -44,24 +44,24 @@ module _ (ws : List ℕ) (fine : sound ws ≡ true) where
   known chain low high = and-both (leb 1 chain) (leb chain mostChains) (le-leb 1 chain low) (le-leb chain mostChains high)
 
   -- the counts and sums of a statement are the tally's
-  counted : (chain : ℕ) → elementsOn ws chain ≡ statementIn (tallyOf ws) ws chain .elements
-  unfolding elementsOn
+  counted : (chain : ℕ) → elementsOver ws (ofChain chain) ≡ statementIn (tallyOf ws) ws chain .elements
+  unfolding elementsOver
   counted chain =
       sym
       (elements-sum ws (λ k e. oneIf (eqb (chainOf e) chain))
       (λ p. oneIf (ofChain chain (elementAt ws p)))
       (λ p h. ap (λ (n : ℕ). oneIf (eqb n chain)) (chain-read (elementAt ws p))))
 
-  waiting : (chain : ℕ) → waitingOn ws chain ≡ statementIn (tallyOf ws) ws chain .waiting
-  unfolding waitingOn
+  waiting : (chain : ℕ) → waitingOver ws (ofChain chain) ≡ statementIn (tallyOf ws) ws chain .waiting
+  unfolding waitingOver
   waiting chain =
       sym
       (elements-sum ws (λ k e. oneIf (eqb (chainOf e) chain && waitsIn (tallyOf ws) e))
       (λ p. oneIf (ofChain chain (elementAt ws p) && waits ws (elementAt ws p)))
       (λ p h. rw (chain-read (elementAt ws p), waits-read ws fine p h)))
 
-  gotten : (chain : ℕ) (side : Side) → sharesOn ws chain side ≡ chainGets (tallyOf ws) ws chain side
-  unfolding sharesOn
+  gotten : (chain : ℕ) (side : Side) → sharesOver ws (ofChain chain) side ≡ chainGets (tallyOf ws) ws chain side
+  unfolding sharesOver
   gotten chain side =
       sym
       (elements-sum ws (λ k e. cond (eqb (chainOf e) chain) (gets ws k side) 0)
@@ -77,11 +77,11 @@ module _ (ws : List ℕ) (fine : sound ws ≡ true) where
       ∙ rw (counted chain, waiting chain, gotten chain operation, gotten chain provision)
 
   -- what the statement of a chain says of a side
-  said : (side : Side) (p : ℕ) → p < mostChains → statedOn side (statementReply ws (p + 1)) ≡ sharesOn ws (p + 1) side
+  said : (side : Side) (p : ℕ) → p < mostChains → statedOn side (statementReply ws (p + 1)) ≡ sharesOver ws (ofChain (p + 1)) side
   unfolding statementOf
   said side p h = ap (statedOn side) (statement-accepted ws (p + 1) fine (known (p + 1) (omega arith) (omega arith))) ∙ of-side side
     where
-      of-side : (s : Side) → statedOn s (statementOf ws (p + 1)) ≡ sharesOn ws (p + 1) s
+      of-side : (s : Side) → statedOn s (statementOf ws (p + 1)) ≡ sharesOver ws (ofChain (p + 1)) s
       of-side operation = refl
       of-side provision = refl
 
@@ -91,9 +91,9 @@ module _ (ws : List ℕ) (fine : sound ws ≡ true) where
   all-shares side = shares-all ws fine side ∙ sym (rw (closed-sum ws fine side, quoted-sum ws side))
 
   handed : (side : Side) → sumBelow mostChains (λ p. statedOn side (statementReply ws (p + 1))) ≡ emissions (tallyOf ws) side
-  unfolding sharesOn
+  unfolding sharesOver
   handed side =
-      sum-cong mostChains (λ p. statedOn side (statementReply ws (p + 1))) (λ p. sharesOn ws (p + 1) side) (said side)
+      sum-cong mostChains (λ p. statedOn side (statementReply ws (p + 1))) (λ p. sharesOver ws (ofChain (p + 1)) side) (said side)
       ∙ sum-by-chain ws fine (shareOf side)
       ∙ all-shares side
 

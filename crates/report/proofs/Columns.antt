@@ -9,7 +9,7 @@ use lib.Dec.{leb}
 use Rattle.apportion.specs.Places.{sumBelow, oneIf}
 use Rattle.apportion.proofs.Sums.{sum-cong, sum-add}
 use Rattle.book.specs.ClassTotal.{overElements, classTotal}
-use Rattle.book.specs.Statements.{ofChain, waits, elementsOn, waitingOn, sharesOn, statementOf, zerosBeside}
+use Rattle.book.specs.Statements.{ofChain, waits, elementsOver, waitingOver, sharesOver, statementOf, zerosBeside}
 use Rattle.book.specs.declared.replies.Statement.{Statement}
 use Rattle.book.proofs.Laws.{statement-accepted, statement-unused}
 use Rattle.book_words.specs.Book.{elements, elementAt}
@@ -46,7 +46,7 @@ sumOn ws chain number = sumBelow (elements ws) (λ p. cond (ofChain chain (eleme
 module _ (ws : List ℕ) (chain : ℕ) where
   -- each number of a statement is such a sum
   elements-on : statementOf ws chain .elements ≡ sumOn ws chain (λ e. 1)
-  unfolding statementOf elementsOn
+  unfolding statementOf elementsOver
   elements-on =
       sum-cong (elements ws)
       (λ p. oneIf (ofChain chain (elementAt ws p)))
@@ -54,7 +54,7 @@ module _ (ws : List ℕ) (chain : ℕ) where
       (λ p h. one-of (ofChain chain (elementAt ws p)))
 
   waiting-on : statementOf ws chain .waiting ≡ sumOn ws chain (λ e. oneIf (waits ws e))
-  unfolding statementOf waitingOn
+  unfolding statementOf waitingOver
   waiting-on =
       sum-cong (elements ws)
       (λ p. oneIf (ofChain chain (elementAt ws p) && waits ws (elementAt ws p)))
@@ -62,15 +62,15 @@ module _ (ws : List ℕ) (chain : ℕ) where
       (λ p h. one-of-both (ofChain chain (elementAt ws p)) (waits ws (elementAt ws p)))
 
   operation-on : statementOf ws chain .operation ≡ sumOn ws chain (λ e. e .operation)
-  unfolding statementOf sharesOn
+  unfolding statementOf sharesOver
   operation-on = refl
 
   provision-on : statementOf ws chain .provision ≡ sumOn ws chain (λ e. e .provision)
-  unfolding statementOf sharesOn
+  unfolding statementOf sharesOver
   provision-on = refl
 
   total-on : statementOf ws chain .total ≡ sumOn ws chain (λ e. e .operation + e .provision)
-  unfolding statementOf sharesOn
+  unfolding statementOf sharesOver
   total-on =
       let own : ℕ → (Element → ℕ) → ℕ = λ p number. cond (ofChain chain (elementAt ws p)) (number (elementAt ws p)) 0 in
       sym (sum-add (elements ws) (λ p. own p (λ e. e .operation)) (λ p. own p (λ e. e .provision)))
@@ -88,7 +88,7 @@ module _ (ws : List ℕ) (fine : sound ws ≡ true) where
       ∙ sum-by-chain ws fine number
 
   -- so the elements of all chains are all elements
-  pub elements-by-chain : sumBelow mostChains (λ j. elementsOn ws (j + 1)) ≡ overElements ws (λ e. 1)
+  pub elements-by-chain : sumBelow mostChains (λ j. elementsOver ws (ofChain (j + 1))) ≡ overElements ws (λ e. 1)
   unfolding statementOf
   elements-by-chain = over-chains (λ s. s .elements) (λ e. 1) (elements-on ws)
 

@@ -16,8 +16,6 @@ use Rattle.report.specs.declared.printing.Printed.the-variants.{Written,
 use Rattle.report.specs.Printing.{printedNumbers, answerFor, numbersFor, bufferWith}
 use Rattle.report.specs.Sheet.{allWord, allLine, sheetText, columnSums, sheetRefusal, sheetAnswer, sheetNumbers, sheetBuffer}
 use Rattle.report.specs.Text.{wordLine, lastLine}
-use Rattle.report.proofs.Columns.{class-total-of-lines}
-use Rattle.report.proofs.LastLine.{sheet-last-line}
 pub use Rattle.report.proofs.Columns.{class-total-of-lines}
 pub use Rattle.report.proofs.LastLine.{sheet-last-line}
 pub use Rattle.report.proofs.Lines.{sheet-fits, refused-fits}

@@ -13,7 +13,7 @@ use lib.ListN.{length, getD, drop, set, length-append, drop-of-length-le}
 use lib.Seq.{sets, drop-cons, length-sets}
 use Rattle.apportion.specs.Places.{sumBelow}
 use Rattle.book.specs.ClassTotal.{classTotal}
-use Rattle.book.specs.Statements.{elementsOn, statementOf}
+use Rattle.book.specs.Statements.{ofChain, elementsOver, statementOf}
 use Rattle.book.specs.declared.replies.Statement.{Statement}
 use Rattle.book.proofs.Laws.{StatementWithin, statement-within, class-total-within}
 use Rattle.book_words.specs.Book.{elements}
@@ -230,20 +230,20 @@ module _ (ws : List ℕ) where
         omega (arith, length-append allWord (lineEnd (statementNumbers (classTotal ws))), end-most (classTotal ws) (class-total-within ws fine))
 
     -- the lines of the chains 1 to n have at most 74 bytes for each of their elements
-    lines-most : (n : ℕ) → n ≤ mostChains → length (linesTo ws n) ≤ lineRoom * sumBelow n (λ j. elementsOn ws (j + 1))
+    lines-most : (n : ℕ) → n ≤ mostChains → length (linesTo ws n) ≤ lineRoom * sumBelow n (λ j. elementsOver ws (ofChain (j + 1)))
     unfolding isUsed
     lines-most zero h = omega arith
-    lines-most (suc n) h = go (ltb 0 (elementsOn ws (suc n))) refl (lines-most n (omega arith))
+    lines-most (suc n) h = go (ltb 0 (elementsOver ws (ofChain (suc n)))) refl (lines-most n (omega arith))
       where
-        go : (t : Bool) → ltb 0 (elementsOn ws (suc n)) ≡ t → length (linesTo ws n) ≤ lineRoom * sumBelow n (λ j. elementsOn ws (j + 1))
-            → length (linesTo ws n ++ cond (ltb 0 (elementsOn ws (suc n))) (chainLine ws (suc n)) [])
-            ≤ lineRoom * (sumBelow n (λ j. elementsOn ws (j + 1)) + elementsOn ws (n + 1))
+        go : (t : Bool) → ltb 0 (elementsOver ws (ofChain (suc n))) ≡ t → length (linesTo ws n) ≤ lineRoom * sumBelow n (λ j. elementsOver ws (ofChain (j + 1)))
+            → length (linesTo ws n ++ cond (ltb 0 (elementsOver ws (ofChain (suc n)))) (chainLine ws (suc n)) [])
+            ≤ lineRoom * (sumBelow n (λ j. elementsOver ws (ofChain (j + 1))) + elementsOver ws (ofChain (n + 1)))
         go true e before =
-            rw (e, length-append, add-one) (omega (arith, before, line-most (suc n) h, ltb-true 0 (elementsOn ws (suc n)) e))
+            rw (e, length-append, add-one) (omega (arith, before, line-most (suc n) h, ltb-true 0 (elementsOver ws (ofChain (suc n))) e))
         go false e before = rw (e, append-nil (linesTo ws n)) (omega (arith, before))
 
     -- so a sheet has room
-    room-for : (n : ℕ) → n ≤ mostChains → sumBelow n (λ j. elementsOn ws (j + 1)) ≤ 256
+    room-for : (n : ℕ) → n ≤ mostChains → sumBelow n (λ j. elementsOver ws (ofChain (j + 1))) ≤ 256
         → length ((heading ++ linesTo ws n) ++ allLine (classTotal ws)) ≤ sheetRoom
     unfolding heading
     room-for n h few =

@@ -8,7 +8,7 @@ use lib.Dec.{ltb}
 use borrow.Author.Tests.{lt-ltb, eq-eqb, ne-eqb, ltb-true, ltb-false}
 use Rattle.apportion.specs.Places.{countBelow, oneIf}
 use Rattle.apportion.proofs.Sums.{sum-next, sum-more}
-use Rattle.book.specs.Statements.{elementsOn, ofChain}
+use Rattle.book.specs.Statements.{elementsOver, ofChain}
 use Rattle.book_words.specs.Book.{elements, elementAt}
 use Rattle.book_words.specs.Measures.{mostChains}
 use Rattle.book_words.proofs.Booleans.{both, and-both}
@@ -40,7 +40,7 @@ module _ (ws : List ℕ) where
 
   -- no element is on an unused chain
   pub unused-none : (chain : ℕ) → isUsed ws chain ≡ false → (p : ℕ) → p < elements ws → elementAt ws p .chain ≡ chain → ⊥
-  unfolding isUsed elementsOn
+  unfolding isUsed elementsOver
   unused-none chain unused p h on =
       omega (
         arith,
@@ -86,7 +86,7 @@ module _ {ws : List ℕ} {after : ℕ} where
 
   -- after all elements it is the next used chain
   pub seen-all : {n next : ℕ} → n ≡ elements ws → Seen ws after n next → NextUsed ws after next
-  unfolding isUsed elementsOn
+  unfolding isUsed elementsOver
   seen-all e s =
       record {
         inside = s .inside;

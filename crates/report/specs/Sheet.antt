@@ -7,7 +7,7 @@ use lib.Dec.{ltb}
 use Rattle.apportion.specs.Grounds.{Ground, firstOf, accepted}
 use Rattle.apportion.specs.Places.{sumBelow}
 use Rattle.book.specs.ClassTotal.{classTotal}
-use Rattle.book.specs.Statements.{elementsOn, statementOf}
+use Rattle.book.specs.Statements.{ofChain, elementsOver, statementOf}
 use Rattle.book.specs.declared.replies.Statement.{Statement}
 use Rattle.book_words.specs.Measures.{mostChains}
 use Rattle.book_words.specs.Soundness.{sound}
@@ -34,7 +34,7 @@ heading =
 
 -- a used chain has an element
 unfoldable pub isUsed : List ℕ → ℕ → Bool
-isUsed ws chain = ltb 0 (elementsOn ws chain)
+isUsed ws chain = ltb 0 (elementsOver ws (ofChain chain))
 
 -- the line of a chain: its number and its statement, under the words of the heading
 abbrev pub statementNumbers : Statement → List ℕ
