@@ -1,6 +1,7 @@
 """The book: its words, its records and its soundness, by exact integers.
 
-Written from document 01 alone. Sentences in quotation marks are its own.
+Written from document 01 and from document 02's weighed passengers. Sentences
+in quotation marks are their own.
 
 A book is a list of words, which are whole numbers below 2^64; a damaged one
 holds any of them.
@@ -8,8 +9,8 @@ holds any of them.
 
 from collections import namedtuple
 
-# "the first 2,404 are the book"; "Word 0 is 14083"
-LENGTH = 2404
+# "The book becomes 2,660 words." "Word 0 is 14083"
+LENGTH = 2660
 MARK = 14083
 
 
@@ -42,6 +43,10 @@ HEADS = up_to(1, 10 ** 6)
 DISTANCES = up_to(1, 40_000_000)
 HUB_DISTANCES = up_to(0, 0)
 INTENSITIES = up_to(0, 10 ** 9)
+# "kg per head, 1 to 300, or 0 for the standard 100; freight and quotes hold
+# 0"
+KG_PER_HEAD = up_to(0, 300)
+NO_KG_PER_HEAD = up_to(0, 0)
 
 # "an entry's amounts 0 to 10^18 µg"
 ENTRY_AMOUNTS = up_to(0, 10 ** 18)
@@ -63,7 +68,8 @@ Category = namedtuple("Category", "kind closed")
 Entry = namedtuple("Entry", "category group operation provision struck")
 Element = namedtuple(
     "Element",
-    "category chain code amount distance activity operation provision")
+    "category chain code amount distance activity operation provision "
+    "kg_per_head")
 
 # Operation and provision are "kept separate throughout".
 AMOUNTS = ("operation", "provision")
@@ -74,7 +80,7 @@ Listing = namedtuple("Listing", "count start most form")
 
 # "words 1 to 3 count categories, entries, elements (limits 16, 64, 256)";
 # "from word 4, categories, 2 words", "from word 36, entries, 5 words",
-# "from word 356, elements, 8 words"
+# "from word 356, elements"; "Element records get a ninth word"
 CATEGORIES = Listing(1, 4, 16, Category)
 ENTRIES = Listing(2, 36, 64, Entry)
 ELEMENTS = Listing(3, 356, 256, Element)
@@ -146,6 +152,10 @@ class Book:
         return [element for element in self.elements
                 if element.category == category]
 
+    def passengers_of(self, category):
+        return [element for element in self.elements_of(category)
+                if element.code in PASSENGER_CODES]
+
 
 # What a call and the soundness have in common.
 
@@ -169,6 +179,21 @@ def distances_of(kind):
     return HUB_DISTANCES if kind == HUB else DISTANCES
 
 
+def kg_per_head_of(code):
+    """The range of kg per head, "which for freight is 0 alone"."""
+    return KG_PER_HEAD if code in PASSENGER_CODES else NO_KG_PER_HEAD
+
+
+def is_weighed(kg_per_head):
+    """Any number but 0 is a stated mass, whether or not it is in range."""
+    return kg_per_head != 0
+
+
+def mass_of_head(kg_per_head):
+    """The stated mass, "or 0 for the standard 100"."""
+    return kg_per_head if is_weighed(kg_per_head) else PASSENGER_MASS
+
+
 def activity_of(kind, code, amount, distance):
     """"Activity is amount × distance for freight, amount in a hub, amount ×
     code × distance for passengers." A quoted element has no kind.
@@ -183,7 +208,8 @@ def activity_of(kind, code, amount, distance):
 def limited_activity(code, amount, distance, activity):
     """What an element adds to the activity that ground 10 limits: "hubs and
     quotes too, passengers as in P". "P is the sum of head count × 100 ×
-    distance".
+    distance"; "ground 10 still counts 100 per head", whatever the stated
+    mass.
     """
     if code in PASSENGER_CODES:
         return amount * PASSENGER_MASS * distance
@@ -215,18 +241,20 @@ def whole_activity(book):
 # Soundness.
 
 def is_sound(words):
-    """Whether 2,404 or more words hold a sound book."""
+    """Whether 2,660 or more words hold a sound book."""
     return sound_book(words) is not None
 
 
 def sound_book(words):
-    """The book that 2,404 or more words hold, None where it is not sound.
+    """The book that 2,660 or more words hold, None where it is not sound.
 
     "A book is sound when word 0 and the counts are as above, every counted
     record has its fields in range [...], suits its category's kind [...] and
     has the right activity, the sums stay within refusal 10's limits, shares
     in open categories are 0, and in each closed category the shares sum to
     the category's unstruck entries, operation and provision each."
+    Weighed and unweighed passengers in one category are a mixture: "a book
+    that already holds such a mixture is not sound".
     """
     words = words[:LENGTH]
     if words != LAST[0]:
@@ -240,7 +268,7 @@ LAST = [None, None]
 
 
 def sound_book_of(words):
-    """The same of exactly 2,404 words."""
+    """The same of exactly 2,660 words."""
     if words[0] != MARK:
         return None
     if any(words[listing.count] > listing.most for listing in LISTINGS):
@@ -250,6 +278,7 @@ def sound_book_of(words):
             and all(is_right_entry(book, entry) for entry in book.entries)
             and all(is_right_element(book, element)
                     for element in book.elements)
+            and not any(is_mixed(book, number) for number in book.kinds)
             and sums_are_within_limits(book)
             and open_shares_are_0(book)
             and closed_shares_are_right(book)):
@@ -283,7 +312,15 @@ def is_right_element(book, element):
             and (code in FREIGHT_CODES or code in PASSENGER_CODES)
             and amount in amounts_of(code)
             and distance in distances_of(kind)
-            and activity == activity_of(kind, code, amount, distance))
+            and activity == activity_of(kind, code, amount, distance)
+            and element.kg_per_head in kg_per_head_of(code))
+
+
+def is_mixed(book, category):
+    """Whether some passenger elements of a category, open or closed, are
+    weighed and others are not."""
+    return len({is_weighed(element.kg_per_head)
+                for element in book.passengers_of(category)}) == 2
 
 
 def sums_are_within_limits(book):

@@ -1,6 +1,7 @@
 """The calls of the book: their grounds, and what an accepted one does.
 
-Written from document 01 alone. Sentences in quotation marks are its own.
+Written from document 01 and from document 02's weighed passengers. Sentences
+in quotation marks are their own.
 
 A call gets the words of the lent slice, reads the records out of them and,
 when it is accepted, writes into them.
@@ -13,8 +14,8 @@ from calculation.book import (
     FACTORS, FLAGS, FREIGHT_CODES, GROUPS, INTENSITIES, KINDS, LENGTH, MARK,
     MASSES, MOST_ACTIVITY, MOST_EMISSIONS, PASSENGER_CODES, QUANTITIES,
     QUOTED, Book, Category, Element, Entry, activity_of, amounts_of, append,
-    distances_of, emissions_of, limited_activity, sound_book, total,
-    unsuited_code, unsuited_group, whole_activity, word)
+    distances_of, emissions_of, is_weighed, kg_per_head_of, limited_activity,
+    sound_book, total, unsuited_code, unsuited_group, whole_activity, word)
 from calculation.closing import (
     INTENSITY_CODES, MOST_INTENSITY, Sums, divisors, intensity_of,
     is_without_weight, shares_by_number)
@@ -31,6 +32,7 @@ OUT_OF_RANGE = 7
 FULL = 8
 NO_WEIGHT = 9
 OVER_LIMIT = 10
+MIXED = 14
 
 
 # The grounds of each call: every number that holds, in checking order, so
@@ -39,8 +41,8 @@ OVER_LIMIT = 10
 # category that is not there), the later one does not hold.
 
 def book_for_call(words):
-    """The book, None for ground 1: "The slice is shorter than 2,404 words
-    or, except for fresh and loading, the book is not sound."
+    """The book, None for ground 1: the slice is shorter than the book "or,
+    except for fresh and loading, the book is not sound."
     """
     if len(words) < LENGTH:
         return None
@@ -106,7 +108,8 @@ def grounds_of_strike(book, entry):
 
 
 @with_ground_1
-def grounds_of_enrol(book, category, chain, code, amount, distance):
+def grounds_of_enrol(book, category, chain, code, amount, distance,
+                     kg_per_head=0):
     kind = book.kind(category)
     if not book.has_category(category):
         yield NO_SUCH_NUMBER
@@ -117,7 +120,11 @@ def grounds_of_enrol(book, category, chain, code, amount, distance):
         yield CLOSED_OR_STRUCK
     if unsuited_code(kind, code):
         yield UNSUITED
-    if not (amount in amounts_of(code) and distance in distances_of(kind)):
+    # "It refuses with 14, checked after 6"
+    if would_mix(book, category, code, kg_per_head):
+        yield MIXED
+    if not (amount in amounts_of(code) and distance in distances_of(kind)
+            and kg_per_head in kg_per_head_of(code)):
         yield OUT_OF_RANGE
     if len(book.elements) == ELEMENTS.most:
         yield FULL
@@ -187,6 +194,15 @@ def grounds_of_result(sums, code):
         yield OVER_LIMIT
 
 
+def would_mix(book, category, code, kg_per_head):
+    """"a passenger element that is weighed when an earlier one in its
+    category is not, or the reverse".
+    """
+    return code in PASSENGER_CODES and any(
+        is_weighed(earlier.kg_per_head) != is_weighed(kg_per_head)
+        for earlier in book.passengers_of(category))
+
+
 def would_pass_emissions(book, operation, provision):
     return (emissions_of(book, "operation") + operation > MOST_EMISSIONS
             or emissions_of(book, "provision") + provision > MOST_EMISSIONS)
@@ -202,8 +218,8 @@ def would_pass_activity(book, code, amount, distance, activity):
 # answer.
 
 def fresh(words):
-    # "the 2,404 words become 0, then word 0 is set"; "later words are never
-    # touched"
+    # All words of the book "become 0, then word 0 is set"; "later words are
+    # never touched"
     words[:LENGTH] = [0] * LENGTH
     words[0] = MARK
     return []
@@ -232,12 +248,14 @@ def strike(words, entry):
     return []
 
 
-def enrol(words, category, chain, code, amount, distance):
+def enrol(words, category, chain, code, amount, distance, kg_per_head=0):
+    # "Enrol takes it as a last number"
     kind = Book(words).kind(category)
     activity = activity_of(kind, code, amount, distance)
     return [append(words, ELEMENTS, Element(category, chain, code, amount,
                                             distance, activity,
-                                            operation=0, provision=0))]
+                                            operation=0, provision=0,
+                                            kg_per_head=kg_per_head))]
 
 
 def quoted_shares(adjust, mass, distance, operation_intensity,
@@ -255,10 +273,12 @@ def quote(words, chain, adjust, mass, distance, operation_intensity,
     operation, provision = quoted_shares(adjust, mass, distance,
                                          operation_intensity,
                                          provision_intensity)
-    # "an element of category 0, code 0"; "Its activity is mass × distance."
+    # "an element of category 0, code 0"; "Its activity is mass × distance.";
+    # "freight and quotes hold 0"
     return [append(words, ELEMENTS, Element(QUOTED, chain, 0, mass, distance,
                                             mass * distance,
-                                            operation, provision))]
+                                            operation, provision,
+                                            kg_per_head=0))]
 
 
 def close(words, category):
@@ -306,7 +326,7 @@ CALLS = {
     "open": Call(1, grounds_of_open, open_category, 1),
     "post": Call(5, grounds_of_post, post, 1),
     "strike": Call(1, grounds_of_strike, strike, 0),
-    "enrol": Call(5, grounds_of_enrol, enrol, 1),
+    "enrol": Call(6, grounds_of_enrol, enrol, 1),
     "quote": Call(6, grounds_of_quote, quote, 1),
     "close": Call(1, grounds_of_close, close, 0),
     "statement": Call(1, grounds_of_statement, statement, 5),

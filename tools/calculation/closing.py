@@ -1,13 +1,14 @@
 """What a closing divides, and what an intensity comes to.
 
-Written from document 01 alone. Sentences in quotation marks are its own.
+Written from document 01 and from document 02's weighed passengers. Sentences
+in quotation marks are their own.
 
 An amount is "operation" or "provision". The codes of a class of elements are
 the freight codes, the passenger codes or those of one group.
 """
 
 from calculation.book import (
-    AMOUNTS, FREIGHT_CODES, HUB, PASSENGER_CODES, PASSENGER_MASS, total,
+    AMOUNTS, FREIGHT_CODES, HUB, PASSENGER_CODES, mass_of_head, total,
     unstruck)
 from calculation.dividing import shares_of
 
@@ -33,9 +34,10 @@ class Sums:
                          if element.category == category}
         # "F is the freight activity; P is the sum of head count × 100 ×
         # distance (100 kg per passenger, Annex A.4.2); C is the passengers'
-        # activity."
+        # activity." "P uses the stated mass"
         self.F = self.activity(FREIGHT_CODES)
-        self.P = sum(element.amount * PASSENGER_MASS * element.distance
+        self.P = sum(element.amount * mass_of_head(element.kg_per_head)
+                     * element.distance
                      for element in self.elements.values()
                      if element.code in PASSENGER_CODES)
         self.C = self.activity(PASSENGER_CODES)

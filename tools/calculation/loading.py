@@ -1,6 +1,7 @@
 """Loading a file into a book.
 
-Written from document 01 alone. Sentences in quotation marks are its own.
+Written from document 01 and from document 02's weighed passengers. Sentences
+in quotation marks are their own.
 
 The file is its bytes. Its counts and offsets are any numbers below 2^32.
 """
@@ -9,7 +10,7 @@ import struct
 from collections import namedtuple
 
 from calculation import calls
-from calculation.book import FLAGS, LENGTH, MARK, QUOTED
+from calculation.book import FLAGS, LENGTH, MARK, PASSENGER_CODES, QUOTED
 
 # Refusal numbers beside those of the calls.
 BAD_FILE = 11
@@ -134,14 +135,18 @@ def steps(data):
 def step_of_element(category, chain, code, adjust, amount, distance,
                     operation_intensity, provision_intensity):
     """Whether ground 13 stops it, the call and its arguments: "Code must be 0
-    with category 0; adjust and intensities must be 0 otherwise."
+    with category 0; adjust and intensities must be 0 otherwise." But "the
+    adjust field of a passenger element carries it", namely kg per head, "so
+    13 no longer wants 0 there".
     """
     intensities = operation_intensity, provision_intensity
     if category == QUOTED:
         return (code != 0, "quote",
                 (chain, adjust, amount, distance, *intensities))
-    return (adjust != 0 or intensities != (0, 0), "enrol",
-            (category, chain, code, amount, distance))
+    enrolment = category, chain, code, amount, distance
+    if code in PASSENGER_CODES:
+        return intensities != (0, 0), "enrol", (*enrolment, adjust)
+    return adjust != 0 or intensities != (0, 0), "enrol", (*enrolment, 0)
 
 
 def load(words, data):

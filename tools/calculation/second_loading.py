@@ -17,7 +17,7 @@ def header_numbers(data):
 
 def refusal_of_header(words, data):
     """0 where the calls begin."""
-    if len(words) < 2404:
+    if len(words) < 2660:
         return 1
     if len(data) not in range(32, 16_385):
         return 11
@@ -63,10 +63,16 @@ def calls_of_file(data):
                 number_at(data, place + 32, 8),
                 number_at(data, place + 40, 8)]
         else:
-            # No byte of adjust and of the intensities is set.
-            unused = data[place + 12:place + 16] + data[place + 32:place + 48]
+            # No byte of the intensities is set, nor of adjust where it is
+            # not the kg per head of passengers.
+            unused = data[place + 32:place + 48]
+            kg_per_head = 0
+            if 100 <= code <= 1000:
+                kg_per_head = number_at(data, place + 12, 4)
+            else:
+                unused += data[place + 12:place + 16]
             yield 3, number, any(unused), "enrol", [
-                category, chain, code, *measures]
+                category, chain, code, *measures, kg_per_head]
     for number in flagged:
         yield 4, number, False, "close", [number]
 
@@ -83,5 +89,5 @@ def second_load(words, data):
         if refusal != 0:
             numbers = [refusal, table, record]
             break
-    words[:2404] = lists.words()
+    words[:2660] = lists.words()
     return numbers

@@ -1,4 +1,5 @@
-"""The rules of document 01 once more, by other means; the checks compare.
+"""The rules of document 01 once more, and those of document 02's weighed
+passengers, by other means; the checks compare.
 
 The dividing rule hands out its units one at a time, soundness goes through
 the words with running sums, and the calls work on lists beside the book.
@@ -13,7 +14,7 @@ INTENSITY = 10 ** 15
 # The numbers of "Grounds, in checking order", which are not in order of size
 # once a request puts one between others. The cases go by this list too; the
 # calculation has the order in its tests, and nothing from here.
-CHECKING_ORDER = (1, 2, 3, 4, 5, 6, 7, 8, 9, 10, 11, 12, 13)
+CHECKING_ORDER = (1, 2, 3, 4, 5, 6, 14, 7, 8, 9, 10, 11, 12, 13)
 
 
 def in_checking_order(numbers):
@@ -59,6 +60,8 @@ def is_sound_by_words(words):
     operation_sum = provision_sum = activity_sum = 0
     # What the shares of each category have to come to, less what they do.
     owed = [[0, 0] for _ in range(categories + 1)]
+    # Which kg per head the passengers of each category began with.
+    first_kg = {}
     for start in range(36, 36 + 5 * entries, 5):
         category, group, operation, provision, struck = words[start:start + 5]
         if category == 0 or category > categories or group > 2 or struck > 1:
@@ -72,12 +75,14 @@ def is_sound_by_words(words):
             provision_sum += provision
             owed[category][0] += operation
             owed[category][1] += provision
-    for start in range(356, 356 + 8 * elements, 8):
+    for start in range(356, 356 + 9 * elements, 9):
         (category, chain, code, amount, distance, activity, operation,
-         provision) = words[start:start + 8]
+         provision, kg_per_head) = words[start:start + 9]
         if category > categories or chain == 0 or chain > 10_000:
             return False
-        if amount == 0 or distance > 40_000_000:
+        if amount == 0 or distance > 40_000_000 or kg_per_head > 300:
+            return False
+        if code < 3 and kg_per_head > 0:
             return False
         kind = words[2 + 2 * category] if category > 0 else 0
         if kind == 4:
@@ -103,6 +108,12 @@ def is_sound_by_words(words):
             if activity != amount * distance * code:
                 return False
             activity_sum += amount * distance * 100
+            # All weighed where the first is, otherwise none.
+            if first_kg.setdefault(category, kg_per_head) == 0:
+                if kg_per_head > 0:
+                    return False
+            elif kg_per_head == 0:
+                return False
         if category == 0:
             operation_sum += operation
             provision_sum += provision
@@ -136,7 +147,7 @@ class Lists:
         """Takes over the records of a sound book."""
         for listed, count, start, size in (
             (self.categories, words[1], 4, 2), (self.entries, words[2], 36, 5),
-            (self.elements, words[3], 356, 8),
+            (self.elements, words[3], 356, 9),
         ):
             for place in range(start, start + count * size, size):
                 listed.append(words[place:place + size])
@@ -145,7 +156,7 @@ class Lists:
                 self.sums[0] += operation
                 self.sums[1] += provision
         for (category, _, code, amount, distance, activity, operation,
-             provision) in self.elements:
+             provision, _) in self.elements:
             if category == 0:
                 self.sums[0] += operation
                 self.sums[1] += provision
@@ -162,8 +173,8 @@ class Lists:
             words[start:start + len(flat)] = flat
 
     def words(self):
-        """The 2,404 words of a book that holds nothing else."""
-        words = [0] * 2404
+        """The 2,660 words of a book that holds nothing else."""
+        words = [0] * 2660
         self.write(words)
         return words
 
@@ -213,7 +224,14 @@ class Lists:
         self.sums = [old - gone for old, gone in zip(self.sums, entry[2:4])]
         return (0,)
 
-    def enrol(self, category, chain, code, amount, distance):
+    def weighed_and_not(self, category):
+        """How many passenger elements of a category are weighed, and how
+        many are not."""
+        weighed = [element[8] > 0 for element in self.elements
+                   if element[0] == category and element[2] > 2]
+        return weighed.count(True), weighed.count(False)
+
+    def enrol(self, category, chain, code, amount, distance, kg_per_head=0):
         kind, closed = self.category(category)
         passengers = 100 <= code <= 1000
         if passengers:
@@ -225,7 +243,11 @@ class Lists:
             3: not 0 < chain < 10_001 or not (passengers or code < 3),
             4: closed == 1,
             6: kind in ((1, 4) if passengers else (2,)),
+            # One of the other sort is there.
+            14: (passengers
+                 and self.weighed_and_not(category)[kg_per_head > 0] > 0),
             7: (not 0 < amount <= (10 ** 6 if passengers else 10 ** 9)
+                or kg_per_head > 300 * passengers
                 or (distance != 0 if kind == 4
                     else not 0 < distance <= 40_000_000)),
             8: len(self.elements) > 255,
@@ -234,7 +256,7 @@ class Lists:
         if any(grounds.values()):
             return first(grounds), 0
         self.elements.append([category, chain, code, amount, distance,
-                              activity, 0, 0])
+                              activity, 0, 0, kg_per_head])
         self.activity += counts
         return 0, len(self.elements)
 
@@ -254,7 +276,7 @@ class Lists:
         if any(grounds.values()):
             return first(grounds), 0
         self.elements.append([0, chain, 0, mass, distance, mass * distance,
-                              *amounts])
+                              *amounts, 0])
         self.sums = [old + new for old, new in zip(self.sums, amounts)]
         self.activity += mass * distance
         return 0, len(self.elements)
@@ -273,14 +295,16 @@ class Lists:
         """A row for each element of a category: what it weighs in F, in P,
         in C and in S of groups 1 and 2; most are 0. Then their sums."""
         rows = []
-        for category, _, code, amount, distance, activity, *_ in self.elements:
+        for (category, _, code, amount, distance, activity, _, _,
+             kg_per_head) in self.elements:
             if category != number:
                 continue
             if code < 3:
                 rows.append((activity, 0, 0, activity * (code == 1),
                              activity * (code == 2)))
             else:
-                rows.append((0, 100 * amount * distance, activity, 0, 0))
+                kg = amount * (100 if kg_per_head == 0 else kg_per_head)
+                rows.append((0, kg * distance, activity, 0, 0))
         return rows, [sum(row[place] for row in rows) for place in range(5)]
 
     def close(self, number):
@@ -374,13 +398,13 @@ def first(grounds):
 def second_way(name, words, arguments):
     """The numbers that a call gives; changes the words."""
     if name == "fresh":
-        if len(words) < 2404:
+        if len(words) < 2660:
             return [1]
-        for index in range(2404):
+        for index in range(2660):
             words[index] = 0 if index > 0 else 14083
         return [0]
-    if words[:2404] != KEPT[0]:
-        KEPT[:] = words[:2404], lists_of(words)
+    if words[:2660] != KEPT[0]:
+        KEPT[:] = words[:2660], lists_of(words)
     lists = KEPT[1]
     if lists is None:
         # Open, post, enrol and quote give a number.
@@ -403,7 +427,7 @@ KEPT = [None, None]
 
 def lists_of(words):
     """The lists of a sound book, otherwise None."""
-    if len(words) < 2404 or not is_sound_by_words(words):
+    if len(words) < 2660 or not is_sound_by_words(words):
         return None
     lists = Lists()
     lists.read(words)

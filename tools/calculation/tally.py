@@ -1,7 +1,7 @@
 """The tally: what the calls of a list came to, kept beside the book.
 
-Written from document 01 alone, "Lists and the tally". Sentences in quotation
-marks are its own. "The tally is kept beside the book and takes nothing from
+Written from document 01, "Lists and the tally", and from document 02's
+weighed passengers. Sentences in quotation marks are their own. "The tally is kept beside the book and takes nothing from
 it. It is fed each call with its arguments and refusal number."
 """
 
@@ -10,7 +10,8 @@ from collections import namedtuple
 Category = namedtuple("Category", "kind closed")
 Entry = namedtuple("Entry", "category group operation provision struck")
 Enrolled = namedtuple("Enrolled",
-                      "category chain code amount distance activity")
+                      "category chain code amount distance activity "
+                      "kg_per_head")
 Quoted = namedtuple("Quoted", "chain operation provision")
 
 HUB = 4
@@ -52,7 +53,7 @@ class Tally:
         """"marks the entry it names as struck"."""
         self.entries[entry] = self.entries[entry]._replace(struck=True)
 
-    def enrol(self, category, chain, code, amount, distance):
+    def enrol(self, category, chain, code, amount, distance, kg_per_head=0):
         """"adds an element with its arguments and activity"."""
         # "Activity is amount × distance for freight, amount in a hub, amount
         # × code × distance for passengers."
@@ -63,7 +64,7 @@ class Tally:
         else:
             activity = amount * code * distance
         add(self.elements, Enrolled(category, chain, code, amount, distance,
-                                    activity))
+                                    activity, kg_per_head))
 
     def quote(self, chain, adjust, mass, distance, *intensities):
         """"adds an element with its chain and its two amounts, operation and
