@@ -6,7 +6,7 @@ from itertools import combinations
 from calculation.second_way import in_checking_order
 from cases import (
     call_cases, closing_cases, conservation_cases, file_cases, intensity_cases,
-    random_cases, soundness_cases, statement_cases)
+    random_cases, soundness_cases, statement_cases, weighed_cases)
 from cases.book_writer import SORTS, BookCases
 
 SEED = 2404
@@ -17,7 +17,7 @@ ANSWERS = {
     "open": (0, 1, 3, 8),
     "post": (0, 1, 2, 3, 4, 6, 7, 8, 10),
     "strike": (0, 1, 2, 4),
-    "enrol": (0, 1, 2, 3, 4, 6, 7, 8, 10),
+    "enrol": (0, 1, 2, 3, 4, 6, 14, 7, 8, 10),
     "quote": (0, 1, 3, 7, 8, 10),
     "close": (0, 1, 2, 4, 9),
     "statement": (0, 1, 3),
@@ -28,11 +28,12 @@ ANSWERS = {
 # category that is not there is neither open nor closed nor of a kind and has
 # no sums, an entry that is not there is not struck, a group that is none of
 # its values is not 1 or 2, a code that is none of its values wants no F, S or
-# C, and an intensity without its F, S or C has no result.
+# C, an intensity without its F, S or C has no result, and passengers that do
+# not suit a category have no earlier ones there.
 NEVER_BOTH = {
     "post": ((2, 4), (2, 6), (3, 6)),
     "strike": ((2, 4),),
-    "enrol": ((2, 4), (2, 6)),
+    "enrol": ((2, 4), (2, 6), (2, 14), (6, 14)),
     "close": ((2, 4), (2, 9)),
     "intensity": ((2, 5), (2, 9), (2, 10), (3, 9), (3, 10), (9, 10)),
 }
@@ -90,6 +91,7 @@ def add(plain_cases):
     intensity_cases.add(cases)
     statement_cases.add(cases)
     soundness_cases.add(cases, rng)
+    weighed_cases.add(cases)
     add_random(cases, lambda: random_cases.add(cases, rng))
     add_long_lists(cases, possible)
     file_cases.add(cases)

@@ -33,21 +33,21 @@ def before_fresh(cases):
 def dumps(cases):
     """Dumps of nothing, of one word and at the end of the array."""
     cases.poke(2999, LARGEST)
-    cases.poke(2404, 5)
+    cases.poke(2660, 5)
     for first, count in ((0, 0), (0, 1), (3000, 0), (2999, 0), (2999, 1),
-                         (2998, 2), (2403, 2), (1, 3)):
+                         (2998, 2), (2659, 2), (1, 3)):
         cases.dump(first, count)
     # The dump is of the array, whatever is lent.
     cases.lend(0)
     cases.dump(0, 4)
-    cases.dump(2404, 596)
+    cases.dump(2660, 340)
     cases.lend(player.MOST_WORDS)
 
 
 def lent_slices(cases):
-    for index in (2404, 2405, 2411, 2999):
+    for index in (2660, 2661, 2668, 2999):
         cases.poke(index, LARGEST - index)
-    for lent in (0, 1, 4, 36, 356, 2403, 2404, 2405, 3000):
+    for lent in (0, 1, 4, 36, 356, 2404, 2659, 2660, 2661, 3000):
         cases.lend(player.MOST_WORDS)
         cases.new_book(1)
         cases.post(1, 0, 1, 2, 3)
@@ -59,22 +59,22 @@ def lent_slices(cases):
         cases.dump(0, 48)
         if not short:
             cases.each_call(gives=0)
-        cases.dump(2400, 12)
+        cases.dump(2656, 13)
     # A short slice of a damaged book, and fresh on it.
-    cases.lend(2403)
-    for index in (0, 1, 2, 3, 4, 35, 36, 355, 356, 1500, 2402, 2403):
+    cases.lend(2659)
+    for index in (0, 1, 2, 3, 4, 35, 36, 355, 356, 1500, 2658, 2659):
         cases.poke(index, LARGEST)
     cases.fresh(gives=1)
     cases.open(1, gives=1)
     cases.dump_all()
-    cases.lend(2404)
+    cases.lend(2660)
     cases.open(1, gives=1)
     cases.fresh()
     cases.dump_all()
     # The length comes first: a sound book in a slice that is too short.
-    cases.lend(2403)
+    cases.lend(2659)
     cases.is_unsound()
-    cases.lend(2404)
+    cases.lend(2660)
     cases.is_sound()
     cases.lend(player.MOST_WORDS)
     cases.is_sound()
@@ -86,11 +86,11 @@ def unused_arguments(cases):
     rest = (LARGEST, 1, 2, 3, 4, 5, 6)
     for operation, *arguments in (
         (player.FRESH,), (player.OPEN, 3), (player.POST, 1, 0, 5, 6, 7),
-        (player.STRIKE, 1), (player.ENROL, 1, 1, 100, 2, 3),
+        (player.STRIKE, 1), (player.ENROL, 1, 1, 100, 2, 3, 75),
         (player.QUOTE, 1, 1, 1, 1, 1, 1), (player.CLOSE, 1),
         (player.STATEMENT, 1), (player.INTENSITY, 1, 100),
         (player.POKE, 2999, 8),
-        (player.LEND, 2404), (player.DUMP, 0, 40), (player.DUMP, 356, 17),
+        (player.LEND, 2660), (player.DUMP, 0, 40), (player.DUMP, 356, 19),
         (player.APPEND_WEIGHT, 3), (player.DIVIDE, 7, 1),
         (player.LEND, 3000), (player.DUMP, 0, 40), (player.DUMP, 2999, 1),
     ):
@@ -110,7 +110,7 @@ def reckoned_by_hand(cases):
     cases.quote(1, 0, 500, 1, 1, 1)
     # "Quote 600000, adjust 1, 1000 kg, 905,000 m: 600,000,000,000."
     cases.quote(1, 1, 1000, 905_000, 600_000, 600_000)
-    cases.dump(356, 16)
+    cases.dump(356, 18)
     # The calls of the file that document 01 gives as an example.
     cases.new_book(1)
     cases.post(1, 0, 12_000_000, 3_220_000, 560_000)
@@ -354,7 +354,7 @@ def rounding_of_quote(cases):
         cases.fresh()
         cases.quote(1, 0, 10 ** 9 - 1, FARTHEST - 1, intensity, 0)
         cases.quote(1, 0, 10 ** 9 - 1, FARTHEST - 1, 0, intensity)
-        cases.dump(356, 16)
+        cases.dump(356, 18)
     # 2^64 - 1, 2^64 and some more.
     cases.fresh()
     cases.quote(1, 0, 126_027_651, 257, 569_535_445, 569_535_444)
@@ -413,7 +413,7 @@ def full_lists(cases):
     cases.quote(1, 0, 1, 1, 0, 0, gives=8)
     cases.open(4)
     cases.enrol(1, 1, 0, 1, 0, gives=8)
-    cases.dump(356, 2048)
+    cases.dump(356, 2304)
 
 
 def enrol_and_quote(cases, count):
@@ -451,7 +451,7 @@ def in_order_after_1(cases, name, arguments, faults):
     cases.poke(0, book.MARK + 1)
     cases.call(name, *arguments, gives=1)
     cases.poke(0, book.MARK)
-    cases.lend(2403)
+    cases.lend(2659)
     cases.call(name, *arguments, gives=1)
     cases.lend(player.MOST_WORDS)
     note_pairs(cases, name, [1] + in_checking_order(faults))
@@ -538,29 +538,36 @@ def order_of_post(cases):
 
 
 def order_of_enrol_and_quote(cases):
-    """150 are left of 10^17, 9 µg of 10^18, and one or no element."""
-    cases.new_book(1, 2, 3, 4, 2, 1)
+    """150 are left of 10^17, 9 µg of 10^18, and one or no element.
+    Categories 2 and 5 have a passenger who is not weighed, 3 one who is."""
+    cases.new_book(1, 2, 3, 4, 2, 1, 3)
+    cases.enrol(2, 1, 100, 1, 1)
+    cases.enrol(3, 1, 100, 1, 1, 80)
     cases.enrol(5, 1, 100, 1, 1)
     cases.enrol(6, 1, 0, 1, 1)
     cases.close(5)
     cases.close(6)
     cases.fill_emissions(3, 9, 9)
-    for number in range(249):
+    for number in range(247):
         cases.enrol(4, 1, 0, 1, 0)
     cases.fill_activity(1, 4, 150)
-    # Category, the grounds that it brings, its kind.
-    categories = ((1, (), 1), (2, (), 2), (3, (), 3), (4, (), 4),
-                  (5, (4,), 2), (6, (4,), 1), (0, (2,), None),
-                  (7, (2,), None))
+    # Category, the grounds that it brings, its kind, and the kg per head that
+    # make a mixture of passengers there.
+    categories = ((1, (), 1, ()), (2, (), 2, (80, 301)), (3, (), 3, (0,)),
+                  (4, (), 4, ()), (5, (4,), 2, (80, 301)), (6, (4,), 1, ()),
+                  (7, (), 3, ()), (0, (2,), None, ()), (8, (2,), None, ()))
     amounts = ((1, ()), (0, (7,)), (151, (10,)), (10 ** 9 + 1, (7, 10)))
     enrolments = [
-        ((category, chain, code, amount, 0 if kind == 4 else 1),
+        ((category, chain, code, amount, 0 if kind == 4 else 1, kg_per_head),
          {*bad_category, *bad_chain, *bad_code, *measure,
-          *((6,) if (kind, code) in ((1, 100), (4, 100), (2, 0)) else ())})
-        for category, bad_category, kind in categories
+          *((6,) if (kind, code) in ((1, 100), (4, 100), (2, 0)) else ()),
+          *((14,) if code == 100 and kg_per_head in mixed else ()),
+          *((7,) if kg_per_head > (300 if code == 100 else 0) else ())})
+        for category, bad_category, kind, mixed in categories
         for chain, bad_chain in ((1, ()), (0, (3,)))
         for code, bad_code in ((0, ()), (3, (3,)), (100, ()))
         for amount, measure in amounts
+        for kg_per_head in (0, 80, 301)
         # Passengers at distance 0 have no activity that could be too much.
         if not (kind == 4 and code == 100 and 10 in measure)]
     measures = (
@@ -721,7 +728,7 @@ def emissions_of_quotes(cases):
     cases.quote(1, 1, 10 ** 9, FARTHEST, 10 ** 9, 10 ** 9, gives=10)
     cases.quote(1, 1, 10 ** 9, FARTHEST, 0, 10 ** 9, gives=10)
     cases.quote(1, 0, 10 ** 9, FARTHEST, 25_000, 25_000)
-    cases.dump(356, 16)
+    cases.dump(356, 18)
     # Many quotes.
     cases.new_book(3)
     for number in range(10):
@@ -768,7 +775,7 @@ def activities(cases):
             cases.enrol(2, 1, 100, 1, 1, gives=10)
             cases.call(name, *fitting)
             nothing_more(cases)
-            cases.dump(356, 41)
+            cases.dump(356, 46)
     # A hub: its amounts.
     cases.new_book(4, 1)
     cases.fill_activity(2, 1, 10 ** 9)

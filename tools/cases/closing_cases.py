@@ -411,7 +411,7 @@ def unsound_and_short(cases):
             cases.close(number, gives=1)
         cases.intensity(2, 0, gives=1)
         cases.poke(index, value_before)
-    for lent in (0, 1, 36, 356, 2403):
+    for lent in (0, 1, 36, 356, 2404, 2659):
         cases.lend(lent)
         cases.close(1, gives=1)
         cases.intensity(2, 0, gives=1)
@@ -432,9 +432,9 @@ def uncounted_records(cases):
     for number in (3, 4, 64):
         cases.poke_record(ENTRIES, number, (1, number % 3, 1000, 1000, 0))
     for number in (3, 4, 256):
-        cases.poke_record(ELEMENTS, number, (1, 1, 1, 9, 1, 9, 3, 4))
+        cases.poke_record(ELEMENTS, number, (1, 1, 1, 9, 1, 9, 3, 4, 0))
     cases.poke_record(CATEGORIES, 2, (2, 1))
-    for index in range(book.LENGTH, book.LENGTH + 9):
+    for index in range(book.LENGTH, book.LENGTH + 10):
         cases.poke(index, index)
     cases.close(2, gives=2)
     cases.close(1)

@@ -24,7 +24,7 @@ SEEDS = (32, 48, 216)
 STOPS = {
     "open": (3, 8, 13),
     "post": (2, 3, 6, 7, 8, 10),
-    "enrol": (2, 3, 6, 7, 8, 10, 13),
+    "enrol": (2, 3, 6, 14, 7, 8, 10, 13),
     "quote": (3, 7, 8, 10, 13),
     "close": (9,),
 }
@@ -38,9 +38,10 @@ def possible_loads():
     for name, numbers in STOPS.items():
         for number in numbers:
             for place in PLACES:
-                # A list is not full before its first record, and one
-                # enrolment does not pass 10^17.
-                never = number == 8 or (name, number) == ("enrol", 10)
+                # A list is not full before its first record, one enrolment
+                # does not pass 10^17, and there is no earlier passenger.
+                never = number == 8 or (name, number) in (("enrol", 10),
+                                                          ("enrol", 14))
                 if not (place == "first" and never):
                     found.append((number, name, place))
     return found
@@ -111,7 +112,7 @@ def damaged_books(cases):
         [(1, 0), (2, 0), (3, 0)], [(4, 0)], [(4, 5), (5, 2)], [(36, 17)],
         [(38, LARGEST)], [(40, 1)], [(356, 16)], [(362, 1)], [(363, LARGEST)],
         [(index, LARGEST) for index in (*range(4), 35, 36, 355, 356, 1500,
-                                        2403, 2404, 2999)],
+                                        2659, 2660, 2999)],
     ):
         # One that the header stops leaves the damage, the others do not.
         hold(cases)
@@ -130,12 +131,12 @@ def damaged_books(cases):
 
 def lent_slices(cases):
     """The length of the slice, on a book and on words that are none."""
-    for lent in (0, 1, 4, 36, 356, 2403, 2404, 2405, 2999, 3000):
+    for lent in (0, 1, 4, 36, 356, 2404, 2659, 2660, 2661, 2999, 3000):
         short = lent < book.LENGTH
         for first_word in (book.MARK, 0):
             cases.lend(player.MOST_WORDS)
             hold(cases)
-            cases.poke(2403, 8)
+            cases.poke(2659, 8)
             cases.poke(0, first_word)
             cases.lend(lent)
             cases.load(EXAMPLE, SLICE if short else LOADED)

@@ -23,7 +23,7 @@ OFFSETS = HEADER[2:8:2]
 
 def hold(cases):
     """A book with records of every sort, and words behind it."""
-    for index in (2404, 2405, 2999):
+    for index in (2660, 2661, 2999):
         cases.poke(index, 2 ** 64 - index)
     cases.load_and_show(WHOLE)
 
@@ -305,7 +305,7 @@ BAD_HEADER = with_header(BAD_MARK_AND_SECTION, length=LARGEST_U32)
 def order_of_grounds(cases):
     """1, then 11, then 12, then the calls; each file below has what is wrong
     with those after it too."""
-    for lent in (3000, 2404, 2403, 0):
+    for lent in (3000, 2660, 2659, 0):
         cases.lend(player.MOST_WORDS)
         hold(cases)
         cases.lend(lent)
@@ -320,7 +320,7 @@ def order_of_grounds(cases):
             (with_byte(BAD_RECORD, 36, 0), (3, 1, 1)),
             (EXAMPLE, LOADED),
         ):
-            cases.load_and_show(data, gives if lent >= 2404 else SLICE)
+            cases.load_and_show(data, gives if lent >= 2660 else SLICE)
         cases.dump_all()
     cases.lend(player.MOST_WORDS)
 

@@ -2,7 +2,8 @@
 
 from cases.file_writer import file_of
 
-# A file with records of every sort. Its pools leave units over.
+# A file with records of every sort. Its pools leave units over. The passengers
+# of category 3 are weighed, those of category 2 are not.
 CATEGORIES = ((1, 1), (2, 0), (3, 1), (4, 1))
 ENTRIES = (
     (1, 0, 1001, 7, 5),
@@ -18,7 +19,7 @@ ELEMENTS = (
     (1, 4, 1, 0, 11, 13, 0, 0),
     (2, 7, 250, 0, 3, 900, 0, 0),
     (3, 9, 2, 0, 1234, 567, 0, 0),
-    (3, 10_000, 400, 0, 3, 1000, 0, 0),
+    (3, 10_000, 400, 80, 3, 1000, 0, 0),
     (4, 4, 2, 0, 77, 0, 0, 0),
     (4, 1, 0, 0, 5, 0, 0, 0),
     (0, 7, 0, 1, 1000, 905_000, 600_000, 1),
@@ -67,7 +68,7 @@ def full_entries():
 
 def full_elements():
     """Sixteen for each category, of every group and of both sorts where they
-    suit it."""
+    suit it. From category 9 on passengers are weighed."""
     elements = []
     for number in range(256):
         kind, turn = 1 + number % 4, number // 16
@@ -75,7 +76,9 @@ def full_elements():
         if kind == 2 or kind == 3 and turn % 2 == 1:
             code = 100 + 3 * number
         distance = 0 if kind == 4 else 1000 + 7 * number
-        elements.append((1 + number % 16, 1 + 37 * number, code, 0,
+        weighed = code >= 100 and number % 16 >= 8
+        elements.append((1 + number % 16, 1 + 37 * number, code,
+                         1 + 7 * number % 300 if weighed else 0,
                          13 + number, distance, 0, 0))
     return elements
 

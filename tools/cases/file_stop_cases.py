@@ -56,10 +56,13 @@ def fields_that_must_be_0(cases):
     hold(cases)
     for record in (FREIGHT, PASSENGERS, HUB):
         for name, values in (
-            ("adjust", (1, 2, 2 ** 8, 2 ** 31, LARGEST_U32)),
+            ("adjust", (1, 2, 100, 2 ** 8, 2 ** 31, LARGEST_U32)),
             ("operation_intensity", (1, 2 ** 32, 2 ** 63, LARGEST)),
             ("provision_intensity", (1, 2 ** 32, 2 ** 63, LARGEST)),
         ):
+            # The adjust field of passengers is their kg per head.
+            if (record, name) == (PASSENGERS, "adjust"):
+                continue
             stop_at_last(cases, BAD_FIELD, IN_ELEMENTS,
                          *[changed(record, **{name: value})
                            for value in values])
@@ -105,8 +108,10 @@ def bad_field_first(cases):
         changed(FREIGHT, amount=0), changed(PASSENGERS, amount=10 ** 6 + 1),
         changed(FREIGHT, distance=FARTHEST + 1), changed(HUB, distance=1),
     ):
+        if record[2] not in range(100, 1001):
+            stop_at_last(cases, BAD_FIELD, IN_ELEMENTS,
+                         changed(record, adjust=1))
         stop_at_last(cases, BAD_FIELD, IN_ELEMENTS,
-                     changed(record, adjust=1),
                      changed(record, operation_intensity=1),
                      changed(record, provision_intensity=LARGEST))
     # Quotes: chain, adjust, out of range, over the limit.
@@ -140,6 +145,7 @@ def bad_field_first(cases):
 LONGEST = (1, 1, 0, 0, 10 ** 9, FARTHEST, 0, 0)
 HUGE_QUOTE = (0, 1, 0, 0, 10 ** 9, FARTHEST, 10 ** 9, 0)
 HUGE_ENTRY = (1, 0, 10 ** 12, 10 ** 10, 0)
+HUGE_SUM = (1, 0, 10 ** 12, 10 ** 6, 10 ** 6)
 
 
 def stops_of_open(cases):
@@ -186,8 +192,9 @@ def stops_of_enrol(cases):
         (3, changed(FREIGHT, chain=0),
          (changed(FREIGHT, chain=10_001), changed(FREIGHT, chain=2 ** 16 + 1),
           changed(FREIGHT, chain=LARGEST_U32), changed(FREIGHT, code=3),
-          changed(FREIGHT, code=99), changed(PASSENGERS, code=1001),
-          changed(FREIGHT, code=2 ** 16), changed(PASSENGERS, code=2 ** 31),
+          changed(FREIGHT, code=99), changed(PASSENGERS, code=1001, adjust=0),
+          changed(FREIGHT, code=2 ** 16),
+          changed(PASSENGERS, code=2 ** 31, adjust=0),
           changed(FREIGHT, code=LARGEST_U32))),
         (6, changed(FREIGHT, code=100),
          (changed(FREIGHT, category=2), changed(FREIGHT, category=2, code=2),
@@ -222,6 +229,150 @@ def stops_of_enrol(cases):
     cases.load_and_show(file_of([(1, 1)], ENTRIES[:1],
                                 [LONGEST, LONGEST, half]))
     cases.dump_all()
+
+
+# One head each of codes 100 and 400 over 1 m, and freight beside them.
+def worked_row(*kgs_per_head):
+    return [(1, 1, 0, 0, 100, 1, 0, 0),
+            *[(1, chain, code, kg_per_head, 1, 1, 0, 0) for chain, code,
+              kg_per_head in zip((2, 3), (100, 400), kgs_per_head)]]
+
+
+def weighed_passengers(cases):
+    """The adjust field of a passenger element is its kg per head."""
+    hold(cases)
+    # A 9, F 100. With 50 kg per head P is 100: 5, 1, 3.
+    for kgs_per_head, shares in (((0, 0), (3, 1, 5)), ((100, 100), (3, 1, 5)),
+                                 ((50, 50), (5, 1, 3)),
+                                 ((300, 300), (1, 2, 6)), ((1, 1), (9, 0, 0)),
+                                 ((1, 99), (5, 1, 3)), ((99, 1), (5, 1, 3))):
+        cases.load_and_show(file_of([(3, 1)], [(1, 0, 1, 9, 0)],
+                                    worked_row(*kgs_per_head)))
+        cases.shares_are(1, shares, (0, 0, 0))
+        for chain, share in enumerate(shares, 1):
+            cases.statement(chain, shows=(1, 0, share, 0, share))
+        cases.intensities(1)
+    # 14, whichever is weighed, and 7.
+    for kgs_per_head, gives in (((0, 100), 14), ((100, 0), 14), ((0, 301), 14),
+                                ((0, LARGEST_U32), 14), ((300, 301), 7),
+                                ((1, LARGEST_U32), 7), ((1, 2 ** 16 + 1), 7)):
+        cases.load_and_show(file_of([(3, 1)], [(1, 0, 1, 9, 0)],
+                                    worked_row(*kgs_per_head)),
+                            (gives, IN_ELEMENTS, 3))
+    # Each class, and each stated mass, of a first passenger.
+    for code in (100, 101, 999, 1000):
+        for kg_per_head in (0, 1, 2, 99, 100, 101, 255, 256, 300, 301, 512,
+                            2 ** 8 + 45, 2 ** 16, 2 ** 24 + 1, 2 ** 31,
+                            LARGEST_U32):
+            record = (1, 2, code, kg_per_head, 3, 4, 0, 0)
+            for kind in (2, 3):
+                cases.load_and_show(
+                    file_of([(kind, 0)], (), [record]),
+                    LOADED if kg_per_head <= 300 else (7, IN_ELEMENTS, 1))
+            for kind in (1, 4):
+                cases.load_and_show(file_of([(kind, 0)], (), [record]),
+                                    (6, IN_ELEMENTS, 1))
+    cases.dump_all()
+
+
+def stops_of_weighed(cases):
+    """14 after an earlier passenger of the category; category 2 has one who
+    is not weighed, 3 one who is. 13 and the other grounds where adjust is not
+    0."""
+    hold(cases)
+    last = len(ELEMENTS)
+    unweighed = changed(PASSENGERS, adjust=0)
+    weighed = changed(PASSENGERS, category=2)
+    for place in (5, 6, last):
+        for record in (unweighed, weighed):
+            stop(cases, 14, IN_ELEMENTS, record, place)
+    stop_at_last(cases, 14, IN_ELEMENTS,
+                 changed(weighed, adjust=1), changed(weighed, adjust=100),
+                 changed(weighed, adjust=300), changed(weighed, adjust=301),
+                 changed(weighed, adjust=LARGEST_U32),
+                 # 14 comes before 7.
+                 changed(unweighed, amount=0), changed(weighed, amount=0),
+                 changed(unweighed, distance=0),
+                 changed(weighed, distance=FARTHEST + 1),
+                 changed(unweighed, amount=LARGEST, distance=LARGEST))
+    # As the first of its category it is loaded, and the later one stops.
+    for record, place in ((unweighed, 6), (weighed, 4),
+                          (changed(weighed, adjust=300), 4)):
+        cases.load_and_show(file_of(*with_record(IN_ELEMENTS, 0, record)),
+                            (14, IN_ELEMENTS, place))
+    # 7 in the weighed category; as the first of all, in either.
+    stop_everywhere(cases, 7, IN_ELEMENTS, changed(PASSENGERS, adjust=301))
+    stop_at_last(cases, 7, IN_ELEMENTS,
+                 *[changed(PASSENGERS, adjust=adjust)
+                   for adjust in (302, 512, 2 ** 16 + 1, 2 ** 31,
+                                  LARGEST_U32)])
+    stop(cases, 7, IN_ELEMENTS, changed(weighed, adjust=301), 0)
+    # 2, 3 and 6 come before 14 and 7.
+    for adjust in (0, 80, 301, LARGEST_U32):
+        stop_at_last(cases, 2, IN_ELEMENTS,
+                     changed(PASSENGERS, category=5, adjust=adjust))
+        stop_at_last(cases, 3, IN_ELEMENTS,
+                     changed(PASSENGERS, chain=0, adjust=adjust),
+                     changed(weighed, chain=10_001, adjust=adjust))
+        stop_at_last(cases, 6, IN_ELEMENTS,
+                     changed(PASSENGERS, category=1, adjust=adjust),
+                     changed(PASSENGERS, category=4, adjust=adjust),
+                     changed(FREIGHT, code=100, adjust=adjust),
+                     changed(HUB, code=1000, adjust=adjust))
+    # 13 where no passenger is: freight, and codes that are none.
+    for code in (0, 1, 2, 3, 50, 98, 99, 1001, 1002, 2 ** 16 + 100,
+                 LARGEST_U32):
+        for record in (FREIGHT, HUB, PASSENGERS, weighed,
+                       changed(PASSENGERS, category=5)):
+            stop_at_last(cases, BAD_FIELD, IN_ELEMENTS,
+                         changed(record, code=code, adjust=80))
+    # 13 by an intensity comes before 14 and 7, with adjust or without.
+    for record in (unweighed, weighed, PASSENGERS,
+                   changed(PASSENGERS, adjust=301),
+                   changed(PASSENGERS, category=1)):
+        stop_at_last(cases, BAD_FIELD, IN_ELEMENTS,
+                     changed(record, operation_intensity=1),
+                     changed(record, provision_intensity=1))
+    # A quote's adjust is what it was.
+    for adjust, gives in ((0, LOADED), (1, LOADED), (2, (3, 3, 9)),
+                          (80, (3, 3, 9)), (300, (3, 3, 9))):
+        cases.load_and_show(
+            file_of(*with_record(IN_ELEMENTS, last,
+                                 changed(QUOTE, adjust=adjust))), gives)
+    cases.dump_all()
+
+
+def full_of_passengers(cases):
+    """256 passengers: the last is of the other sort, then there is one more.
+    14 and 7 come before 8, and before 10."""
+    hold(cases)
+    for first in (75, 0):
+        listed = [(1, 1 + number, 100 + number, first, 2, 3, 0, 0)
+                  for number in range(257)]
+        for count in (255, 256):
+            cases.load(file_of([(2, 1)], [(1, 0, 1, 1000, 999)],
+                               listed[:count]))
+            cases.dump_book()
+        for place, more, number in ((256, {"adjust": 75 - first}, 14),
+                                    (257, {"adjust": 75 - first}, 14),
+                                    (257, {"adjust": 301},
+                                     7 if first else 14),
+                                    (257, {}, 8),
+                                    (2, {"adjust": 75 - first}, 14)):
+            elements = listed[:max(place, 3)]
+            elements[place - 1] = changed(elements[place - 1], **more)
+            cases.load_and_show(file_of([(2, 1)], (), elements),
+                                (number, IN_ELEMENTS, place))
+    # Exactly 10^17 by 100 kg a head, then one more.
+    heads = (1, 1, 1000, 300, 10 ** 6, FARTHEST, 0, 0)
+    cases.load_and_show(file_of([(2, 1)], [HUGE_SUM], [heads] * 25))
+    cases.intensity(1, 100, shows=(100, 100))
+    for more, number in ((heads, 10), (changed(heads, amount=1, distance=1,
+                                               adjust=1), 10),
+                         (changed(heads, adjust=0), 14),
+                         (changed(heads, adjust=301), 7)):
+        cases.load_and_show(file_of([(2, 1)], (), [heads] * 25 + [more]),
+                            (number, IN_ELEMENTS, 26))
 
 
 def stops_of_quote(cases):
@@ -388,7 +539,8 @@ def closings_without_weights(cases):
 def bytes_of_records(cases):
     """Each byte of each record is another one, one at a time."""
     data = file_of([(3, 1)], [(1, 0, 5, 6, 7)],
-                   [changed(FREIGHT, code=1), QUOTE])
+                   [changed(FREIGHT, code=1), QUOTE,
+                    changed(PASSENGERS, category=1)])
     cases.load_and_show(data)
     start = header_number(data, "categories_offset")
     for place in range(start, len(data)):
@@ -411,6 +563,9 @@ def add(cases):
     stops_of_open(cases)
     stops_of_post(cases)
     stops_of_enrol(cases)
+    weighed_passengers(cases)
+    stops_of_weighed(cases)
+    full_of_passengers(cases)
     stops_of_quote(cases)
     too_many_categories(cases)
     too_many_entries(cases)

@@ -32,6 +32,29 @@ def random_measure(rng, numbers, scale):
     return max(numbers[0], min(number, numbers[-1], 2 ** scale))
 
 
+def random_kg_per_head(words, rng, category, code, strange=16):
+    """Weighed or not as the earlier passengers of the category; one in
+    `strange` is the reverse, none where that is 0."""
+    if code not in book.PASSENGER_CODES:
+        return 0
+    weighed = rng.randrange(2) == 0
+    for number in range(1, min(words[ELEMENTS.count], ELEMENTS.most) + 1):
+        start = book.place(ELEMENTS, number)
+        earlier = book.Element(*words[start:start + book.size(ELEMENTS)])
+        if (earlier.category == category
+                and earlier.code in book.PASSENGER_CODES):
+            weighed = book.is_weighed(earlier.kg_per_head)
+            break
+    if strange and rng.randrange(strange) == 0:
+        weighed = not weighed
+    return random_stated_mass(rng) if weighed else 0
+
+
+def random_stated_mass(rng):
+    return one_of(rng, (1, 50, 99, 100, 101, 300, 1 + rng.randrange(300),
+                        1 + rng.randrange(300)))
+
+
 def random_call(cases, rng, scale, scale_of_posts=None):
     """A call with arguments in their ranges. Posts have the same scale when
     none is given for them."""
@@ -60,7 +83,8 @@ def random_call(cases, rng, scale, scale_of_posts=None):
         code = 100 + rng.randrange(901) if passengers else rng.randrange(3)
         return "enrol", (category, chain, code,
                          measure(book.amounts_of(code)),
-                         0 if kind == 4 else measure(book.DISTANCES))
+                         0 if kind == 4 else measure(book.DISTANCES),
+                         random_kg_per_head(words, rng, category, code))
     if sort < 100:
         return "quote", (chain, rng.randrange(2), measure(book.MASSES),
                          measure(book.DISTANCES), measure(book.INTENSITIES),
@@ -73,7 +97,7 @@ def random_call(cases, rng, scale, scale_of_posts=None):
 
 
 WILD = (0, 1, 2, 3, 4, 5, 15, 16, 17, 63, 64, 65, 99, 100, 101, 255, 256, 257,
-        499, 500, 999, 1000, 1001, 10_000, 10_001, 95_000, 10 ** 6,
+        300, 301, 499, 500, 999, 1000, 1001, 10_000, 10_001, 95_000, 10 ** 6,
         10 ** 6 + 1, FARTHEST, FARTHEST + 1, 10 ** 9, 10 ** 9 + 1, 10 ** 10,
         10 ** 10 + 1, 10 ** 12, 10 ** 12 + 1, 10 ** 17, 10 ** 18, 2 ** 31,
         2 ** 32, 2 ** 32 + 1, 2 ** 63, LARGEST - 1, LARGEST)
@@ -184,7 +208,8 @@ def random_member(cases, rng, category, kind, scale):
             else rng.randrange(3))
     cases.enrol(category, 1 + rng.randrange(4), code,
                 random_measure(rng, book.amounts_of(code), scale),
-                0 if kind == 4 else random_measure(rng, book.DISTANCES, scale))
+                0 if kind == 4 else random_measure(rng, book.DISTANCES, scale),
+                random_kg_per_head(cases.words, rng, category, code, 0))
 
 
 def some_word(cases, rng):

@@ -2,7 +2,7 @@
 
 from cases import file_writer
 from cases.file_writer import LARGEST_U32, MOST_BYTES, file_of
-from cases.random_cases import by_bits, one_of
+from cases.random_cases import by_bits, one_of, random_stated_mass
 
 CATEGORIES, ENTRIES, ELEMENTS = 16, 64, 256  # the limits
 
@@ -15,7 +15,9 @@ def random_parts(rng, most=(CATEGORIES, ENTRIES, ELEMENTS)):
     kinds = [one_of(rng, (1, 2, 3, 3, 4))
              for _ in range(rng.randrange(most[0] + 1))]
     bits = rng.randrange(1, 20)
-    elements = [random_element(rng, kinds, bits)
+    # Whether the passengers of each category are weighed.
+    weighed = [rng.randrange(2) == 0 for _ in kinds]
+    elements = [random_element(rng, kinds, weighed, bits)
                 for _ in range(rng.randrange(most[2] + 1))]
     entries = []
     if kinds:
@@ -27,7 +29,7 @@ def random_parts(rng, most=(CATEGORIES, ENTRIES, ELEMENTS)):
     return categories, entries, elements
 
 
-def random_element(rng, kinds, bits):
+def random_element(rng, kinds, weighed, bits):
     chain = one_of(rng, (1, 2, 3, 10_000, 1 + rng.randrange(10_000)))
     amount = 1 + by_bits(rng, bits)
     distance = 1 + by_bits(rng, bits)
@@ -38,8 +40,10 @@ def random_element(rng, kinds, bits):
     kind = kinds[category - 1]
     passengers = kind == 2 or kind == 3 and rng.randrange(2) == 0
     code = 100 + rng.randrange(901) if passengers else rng.randrange(3)
-    return (category, chain, code, 0, amount, 0 if kind == 4 else distance,
-            0, 0)
+    kg_per_head = (random_stated_mass(rng)
+                   if passengers and weighed[category - 1] else 0)
+    return (category, chain, code, kg_per_head, amount,
+            0 if kind == 4 else distance, 0, 0)
 
 
 def random_entry(rng, kinds, elements):

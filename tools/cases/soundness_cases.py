@@ -254,7 +254,8 @@ def records_at_edges(cases):
     ):
         cases.poke_record(ENTRIES, 1, entry)
         cases.strike(0, gives=SOUND if right else UNSOUND)
-    # Elements: category, chain, code, amount, distance, activity, shares.
+    # Elements: category, chain, code, amount, distance, activity, shares, kg
+    # per head.
     mass, heads, far = 10 ** 9, 10 ** 6, FARTHEST
     cases.poke_record(ENTRIES, 1, (1, 0, 0, 0, 0))
     cases.enrol(1, 1, 0, 1, 1)
@@ -331,11 +332,11 @@ def records_at_edges(cases):
         (False, (1, 1, 0, 3, 4, 12, 1, 0)), (False, (1, 1, 0, 3, 4, 12, 0, 1)),
         (False, (4, 1, 0, 3, 0, 3, 1, 1)),
     ):
-        element += (0,) * (8 - len(element))
+        element += (0,) * (9 - len(element))
         cases.poke_record(ELEMENTS, 1, element)
         cases.strike(0, gives=SOUND if right else UNSOUND)
     # Word 0 and the counts.
-    cases.poke_record(ELEMENTS, 1, (1, 1, 0, 3, 4, 12, 0, 0))
+    cases.poke_record(ELEMENTS, 1, (1, 1, 0, 3, 4, 12, 0, 0, 0))
     cases.is_sound()
     for index, values in (
         (0, (0, 1, 14082, 14084, 2 ** 32 + 14083, 2 ** 63 + 14083, LARGEST)),
@@ -497,8 +498,8 @@ def uncounted_words(cases, rng):
             for index in range(start, start + book.size(listing)):
                 cases.poke(index, rng.getrandbits(64) | 1)
             cases.is_sound()
-    cases.poke(2404, LARGEST)
-    cases.dump(0, 2410)
+    cases.poke(2660, LARGEST)
+    cases.dump(0, 2666)
     for index in counted_words(cases):
         cases.tried([(index, (cases.words[index] + 1) % 2 ** 64)])
     cases.is_sound()
@@ -521,11 +522,11 @@ def uncounted_words(cases, rng):
         else:
             cases.enrol(5, 1 + number, 100 + number, 1 + number, 2)
         if number < 30 or number == ELEMENTS.most - 1:
-            cases.dump(book.place(ELEMENTS, number - 1), 24)
+            cases.dump(book.place(ELEMENTS, number - 1), 27)
     cases.is_sound()
-    cases.dump(0, 2410)
+    cases.dump(0, 2666)
     cases.fresh()
-    cases.dump(0, 2410)
+    cases.dump(0, 2666)
 
 
 def add(cases, rng):

@@ -191,9 +191,9 @@ def uncounted_records(cases):
     cases.close(1)
     for number in (4, 5, 100, 256):
         cases.poke_record(ELEMENTS, number,
-                          (number % 3, 7, 0, 9, 1, 9, 3, 4))
+                          (number % 3, 7, 0, 9, 1, 9, 3, 4, 0))
     # Where a record 257 would begin.
-    for index, value in enumerate((0, 7, 0, 1, 1, 1, 5, 6), book.LENGTH):
+    for index, value in enumerate((0, 7, 0, 1, 1, 1, 5, 6, 0), book.LENGTH):
         cases.poke(index, value)
     cases.statement(7, shows=(2, 1, 10, 7, 17))
     cases.statement(6, shows=(1, 0, 1, 1, 2))
@@ -411,7 +411,7 @@ def unsound_and_short(cases):
         for chain in (1, 2, 3, 10_000, 0, 10_001):
             cases.statement(chain, gives=1)
         cases.poke(index, value_before)
-    for lent in (0, 1, 3, 356, 2403):
+    for lent in (0, 1, 3, 356, 2404, 2659):
         cases.lend(lent)
         for chain in (1, 3, 0, LARGEST):
             cases.statement(chain, gives=1)
