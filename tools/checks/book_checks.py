@@ -27,25 +27,50 @@ WRITTEN_OUT = (
     # The example of document 01, without its closing.
     ("1; 2 1; 3 1 0 12000000 3220000 560000; 5 1 7 0 1000 300000;"
      "5 1 4 0 3000 300000; 6 7 0 1000 500000 62000 10000;"
-     "14 0 8; 14 36 6; 14 356 25",
+     "14 0 8; 14 36 6; 14 356 28",
      "0; 0 1; 0 1; 0 1; 0 2; 0 3;"
      "14083 1 1 3 1 0 0 0; 1 0 38640000000000 6720000000000 0 0;"
-     "1 7 0 1000 300000 300000000 0 0 1 4 0 3000 300000 900000000 0 0 "
-     "0 7 0 1000 500000 500000000 31000000000 5000000000 0"),
+     "1 7 0 1000 300000 300000000 0 0 0 1 4 0 3000 300000 900000000 0 0 0 "
+     "0 7 0 1000 500000 500000000 31000000000 5000000000 0 0"),
     # Quotes reckoned by hand, and halves.
     ("1; 6 1 0 500 1 1 1; 6 1 1 1000 905000 600000 600000;"
-     "6 2 0 499 1 1 2; 6 2 0 501 1 3 1; 14 356 32",
+     "6 2 0 499 1 1 2; 6 2 0 501 1 3 1; 14 356 36",
      "0; 0 1; 0 2; 0 3; 0 4;"
-     "0 1 0 500 1 500 1 1 "
-     "0 1 0 1000 905000 905000000 600000000000 600000000000 "
-     "0 2 0 499 1 499 0 1 0 2 0 501 1 501 2 1"),
+     "0 1 0 500 1 500 1 1 0 "
+     "0 1 0 1000 905000 905000000 600000000000 600000000000 0 "
+     "0 2 0 499 1 499 0 1 0 0 2 0 501 1 501 2 1 0"),
     # A passenger class, a hub, a group; each word of a record is written.
     ("1; 12 4 9; 12 5 9; 12 36 9; 12 40 9; 12 356 9; 12 362 9; 12 363 9;"
-     "2 3; 2 4; 2 2; 3 2 2 5 6 7; 5 1 10000 400 2 3; 5 2 1 1 8 0;"
-     "14 0 10; 14 36 5; 14 356 16",
-     "0; 0 1; 0 2; 0 3; 0 1; 0 1; 0 2;"
-     "14083 3 1 2 3 0 4 0 2 0; 2 2 30 35 0;"
-     "1 10000 400 2 3 2400 0 0 2 1 1 8 0 8 0 0"),
+     "12 364 9; 12 373 9; 12 382 9; 2 3; 2 4; 2 2; 3 2 2 5 6 7;"
+     "5 1 10000 400 2 3; 5 2 1 1 8 0; 6 1 0 1 1 0 0;"
+     "14 0 10; 14 36 5; 14 356 28",
+     "0; 0 1; 0 2; 0 3; 0 1; 0 1; 0 2; 0 3;"
+     "14083 3 1 3 3 0 4 0 2 0; 2 2 30 35 0;"
+     "1 10000 400 2 3 2400 0 0 0 2 1 1 8 0 8 0 0 0 0 1 0 1 1 1 0 0 0 0"),
+    # kg per head: 0 to 300 for passengers, 0 for freight. The activity word
+    # is by the class, whatever is stated.
+    ("1; 2 3; 5 1 1 100 2 3 300; 5 1 1 1000 2 3 1; 5 1 1 100 2 3 301;"
+     "5 1 1 0 2 3 1; 5 1 1 0 2 3 0; 5 1 1 2 2 3 18446744073709551615;"
+     "14 356 28",
+     "0; 0 1; 0 1; 0 2; 7 0; 7 0; 0 3; 7 0;"
+     "1 1 100 2 3 600 0 0 300 1 1 1000 2 3 6000 0 0 1 1 1 0 2 3 6 0 0 0 0"),
+    # 14: weighed after one who is not, and the reverse, each in its category;
+    # before 7 and behind 6, 4, 3 and 2. The first is never 14, and freight is
+    # not looked at.
+    ("1; 2 3; 2 2; 2 1; 5 1 1 0 1 1; 5 1 1 100 1 1 80; 5 2 1 100 1 1 0;"
+     "5 1 1 100 1 1 0; 5 2 1 100 1 1 100; 5 2 1 100 0 1 301;"
+     "5 1 1 100 1 1 301; 5 1 1 100 1 1 1; 5 2 1 1000 1 1 0; 5 1 1 1 1 1 0;"
+     "5 3 1 100 1 1 80; 5 4 1 100 1 1 0; 5 1 0 100 1 1 0; 5 2 1 99 1 1 80;"
+     "7 2; 5 2 1 100 1 1 80; 14 3 1",
+     "0; 0 1; 0 2; 0 3; 0 1; 0 2; 0 3; 14 0; 14 0; 14 0; 7 0; 0 4; 0 5; 0 6;"
+     "6 0; 2 0; 3 0; 3 0; 0; 4 0; 6"),
+    # A mixture is not sound, open or closed; both words together are. So is
+    # 1 kg per head of freight, and 301 of a passenger.
+    ("1; 2 3; 5 1 1 100 1 1 80; 5 1 1 0 1 1; 5 1 1 400 1 1 90; 4 0;"
+     "12 364 0; 4 0; 12 382 0; 4 0; 12 364 1; 4 0; 12 382 300; 4 0;"
+     "12 382 301; 4 0; 12 382 1; 4 0; 12 373 1; 4 0; 12 373 0; 7 1; 4 0;"
+     "12 382 0; 4 0; 12 364 0; 4 0",
+     "0; 0 1; 0 1; 0 2; 0 3; 2; 1; 2; 1; 2; 1; 2; 1; 0; 2; 1; 2"),
     # Strike, twice; struck records still count.
     ("1; 2 1; 3 1 0 1 2 3; 3 1 1 1 4 5; 4 1; 4 1; 4 3; 14 1 3; 14 36 11;"
      "3 1 2 1 6 7",
@@ -57,16 +82,16 @@ WRITTEN_OUT = (
      "12 362 10; 4 1; 12 5 0; 12 362 0; 4 1; 12 363 0; 4 1",
      "0; 0 1; 0 1; 0 1; 1; 1; 4; 4 0; 4 0; 4 0; 3 0; 1; 1; 0"),
     # The lent slice, and words after the book.
-    ("12 2404 5; 13 2403; 1; 13 2404; 1; 2 4; 13 0; 2 4; 13 3000; 2 3;"
-     "14 0 8; 14 2403 3; 14 0 0; 14 3000 0",
-     "1; 0; 0 1; 1 0; 0 2; 14083 2 0 0 4 0 3 0; 0 5 0; ; "),
+    ("12 2660 5; 13 2659; 1; 13 2404; 1; 13 2660; 1; 2 4; 13 0; 2 4; 13 3000;"
+     "2 3; 14 0 8; 14 2659 3; 14 0 0; 14 3000 0",
+     "1; 1; 0; 0 1; 1 0; 0 2; 14083 2 0 0 4 0 3 0; 0 5 0; ; "),
     # Statements of the example, before and after its closing: "4 1 0
     # 28980000000000 5040000000000 34020000000000" and "7 2 0 9691000000000
     # 1685000000000 11376000000000". Chains that are none, and unused ones.
     ("1; 2 1; 3 1 0 12000000 3220000 560000; 5 1 7 0 1000 300000;"
      "5 1 4 0 3000 300000; 6 7 0 1000 500000 62000 10000; 8 7; 8 4; 7 1; 8 4;"
      "8 7; 8 0; 8 1; 8 6; 8 8; 8 10000; 8 10001; 8 18446744073709551615;"
-     "12 0 0; 8 7; 8 0; 12 0 14083; 13 2403; 8 7; 13 2404; 8 7",
+     "12 0 0; 8 7; 8 0; 12 0 14083; 13 2659; 8 7; 13 2660; 8 7",
      "0; 0 1; 0 1; 0 1; 0 2; 0 3; 0 2 1 31000000000 5000000000 36000000000;"
      "0 1 1 0 0 0; 0; 0 1 0 28980000000000 5040000000000 34020000000000;"
      "0 2 0 9691000000000 1685000000000 11376000000000; 3 0 0 0 0 0;"
@@ -77,20 +102,27 @@ WRITTEN_OUT = (
     # and 1 of 6 become 2 and 6, 6 and 0. An element that is not counted adds
     # nothing.
     ("1; 2 1; 3 1 0 1 8 6; 5 1 1 0 7 1; 5 1 2 0 1 1; 7 1; 8 1; 8 2; 12 362 2;"
-     "12 370 6; 12 363 6; 12 371 0; 8 1; 8 2; 12 373 2; 12 378 9; 8 2;"
-     "14 362 2; 14 370 2; 14 372 8",
+     "12 371 6; 12 363 6; 12 372 0; 8 1; 8 2; 12 375 2; 12 380 9; 8 2;"
+     "14 362 2; 14 371 2; 14 374 9",
      "0; 0 1; 0 1; 0 1; 0 2; 0; 0 1 0 7 5 12; 0 1 0 1 1 2; 0 1 0 2 6 8;"
-     "0 1 0 6 0 6; 0 1 0 6 0 6; 2 6; 6 0; 0 2 0 0 0 0 9 0"),
+     "0 1 0 6 0 6; 0 1 0 6 0 6; 2 6; 6 0; 0 2 0 0 0 0 9 0 0"),
     # Limits: 10^18 in either amount, 10^17.
     ("1; 2 1; 3 1 0 1000000000000 1000000 0; 3 1 0 1 1 0; 3 1 0 1 0 1;"
      "6 1 0 1 1 500 0; 6 1 0 1 1 499 500; 4 1; 6 1 0 1 1 500 0;"
-     "3 1 0 1000000000000 10000000000 0; 14 356 16",
+     "3 1 0 1000000000000 10000000000 0; 14 356 18",
      "0; 0 1; 0 1; 10 0; 0 2; 10 0; 0 1; 0; 0 2; 10 0;"
-     "0 1 0 1 1 1 0 1 0 1 0 1 1 1 1 0"),
+     "0 1 0 1 1 1 0 1 0 0 1 0 1 1 1 1 0 0"),
     ("1; 2 3; 5 1 1 0 1000000000 40000000; 5 1 1 0 1000000000 40000000;"
      "5 1 1 0 1000000000 40000000; 5 1 1 0 1000000000 19999999;"
      "5 1 1 0 999999900 1; 5 1 1 1000 1 1; 5 1 1 100 1 1; 6 1 1 1 1 0 0",
      "0; 0 1; 0 1; 0 2; 10 0; 0 3; 0 4; 0 5; 10 0; 10 0"),
+    # The last 100 of 10^17: one head is 100, with 300 kg and with 1 kg, and a
+    # second one is too much.
+    ("1; 2 3; 5 1 1 0 1000000000 40000000; 5 1 1 0 1000000000 40000000;"
+     "5 1 1 0 1000000000 19999999; 5 1 1 0 999999900 1; 5 1 1 1000 1 1 300;"
+     "5 1 1 100 1 1 1; 4 0; 12 400 1; 4 0; 12 3 4; 5 1 1 100 1 1 1;"
+     "5 1 1 100 1 1 1",
+     "0; 0 1; 0 1; 0 2; 0 3; 0 4; 0 5; 10 0; 2; 2; 0 5; 10 0"),
     # Bad records.
     ("14 0 1; 12 3000 1; 14 0 1", "0; bad record 2"),
     ("13 3000; 13 3001; 14 0 1", "bad record 2"),
@@ -180,7 +212,7 @@ def cases_by_both_ways(check):
 
 # Random calls.
 
-ANY = (0, 1, 2, 3, 4, 5, 16, 17, 64, 65, 99, 100, 101, 256, 499, 500, 501,
+ANY = (0, 1, 2, 3, 4, 5, 16, 17, 64, 65, 99, 100, 101, 256, 301, 499, 500, 501,
        1000, 1001, 5000, 10_000, 10_001, 10 ** 6, 10 ** 6 + 1, 20_000_000,
        40_000_000, 40_000_001, 5 * 10 ** 8, 10 ** 9, 10 ** 9 + 1, 10 ** 10,
        10 ** 10 + 1, 10 ** 12, 10 ** 12 + 1, 2 ** 32, 2 ** 63, LARGEST)
@@ -193,7 +225,7 @@ USUAL = {
     "strike": ((1, 2, 3, 5, 8, 13, 21, 34, 55),),
     "enrol": ((1, 2, 3, 4), (1, 2, 3, 10_000), (0, 1, 2, 100, 400, 1000),
               (1, 500, 10 ** 6, 10 ** 9, 10 ** 9),
-              (0, 1, 500, 40_000_000, 40_000_000)),
+              (0, 1, 500, 40_000_000, 40_000_000), (0, 0, 0, 0, 80, 300)),
     "quote": ((1, 2, 3, 10_000), (0, 1), (1, 499, 500, 10 ** 9),
               (1, 500, 905_000, 40_000_000), (0, 1, 499, 500, 10 ** 9),
               (0, 1, 499, 500, 10 ** 9)),
@@ -221,8 +253,8 @@ def random_calls(check):
     rng = random.Random(SEED)
     met = set()
     for number in range(40):
-        words = [rng.getrandbits(64) for _ in range(2412)]
-        after = words[2404:]
+        words = [rng.getrandbits(64) for _ in range(2669)]
+        after = words[2660:]
         check(calls.make("fresh", words) == [0], "fresh")
         lists = Lists()
         for kind in (1, 2, 3, 4):
@@ -239,9 +271,9 @@ def random_calls(check):
             met.add((name, numbers[0]))
             check(numbers == list(getattr(lists, name)(*arguments)),
                   "the numbers of the lists", case)
-            check(words[:2404] == lists.words(), "the words of the lists",
+            check(words[:2660] == lists.words(), "the words of the lists",
                   case)
-            check(words[2404:] == after, "the words after the book", case)
+            check(words[2660:] == after, "the words after the book", case)
             check_change(check, name, numbers, before, words, case)
             if name == "close" and numbers == [0]:
                 closing_checks.check_closing(check, before, words,
@@ -252,7 +284,7 @@ def random_calls(check):
     # whose F is never so small here.
     for name, numbers in (
         ("open", (0, 3, 8)), ("post", (0, 2, 3, 4, 6, 7, 10)),
-        ("strike", (0, 2, 4)), ("enrol", (0, 2, 3, 4, 6, 7, 10)),
+        ("strike", (0, 2, 4)), ("enrol", (0, 2, 3, 4, 6, 14, 7, 10)),
         ("quote", (0, 3, 7, 10)), ("close", (0, 2, 4, 9)),
         ("statement", (0, 3)), ("intensity", (0, 2, 3, 5, 9)),
     ):
@@ -267,7 +299,7 @@ def close_anyhow(lists, words, rng):
         if lists.category(number)[1] == 0 and any(
                 element[0] == number for element in lists.elements):
             lists.close_anyhow(number, rng)
-            words[:2404] = lists.words()
+            words[:2660] = lists.words()
             return
 
 
@@ -290,7 +322,7 @@ def check_change(check, name, numbers, before, words, case):
               "a strike changes one struck word", case)
         return
     count, start, size = {"open": (1, 4, 2), "post": (2, 36, 5)}.get(
-        name, (3, 356, 8))
+        name, (3, 356, 9))
     check(numbers[1] == words[count] == before[count] + 1,
           "an append counts one more", case)
     place = start + (numbers[1] - 1) * size
@@ -323,9 +355,9 @@ def damaged_books(check):
     for words in some_books(rng):
         check(book.is_sound(words) and is_sound_by_words(words), "sound")
         places = [index for start, size, count in
-                  ((4, 2, words[1]), (36, 5, words[2]), (356, 8, words[3]))
+                  ((4, 2, words[1]), (36, 5, words[2]), (356, 9, words[3]))
                   for index in range(start, start + size * (count + 1))
-                  if index < 2404]
+                  if index < 2660]
         for _ in range(700):
             index = (rng.randrange(4) if rng.randrange(20) == 0
                      else places[rng.randrange(len(places))])
@@ -344,7 +376,7 @@ def damaged_books(check):
         # Any words in uncounted records.
         for start, size, count, most in (
             (4, 2, words[1], 16), (36, 5, words[2], 64),
-            (356, 8, words[3], 256),
+            (356, 9, words[3], 256),
         ):
             for index in range(start + size * count, start + size * most):
                 words[index] = rng.getrandbits(64)
@@ -356,7 +388,7 @@ def check_unsound(check, words):
     before = list(words)
     for name, arguments in (
         ("open", (1,)), ("open", (0,)), ("post", (1, 0, 0, 0, 0)),
-        ("strike", (0,)), ("enrol", (5, 1, 0, 1, 1)), ("enrol", (0,) * 5),
+        ("strike", (0,)), ("enrol", (5, 1, 0, 1, 1, 0)), ("enrol", (0,) * 6),
         ("quote", (1, 0, 1, 1, 0, 0)), ("quote", (0,) * 6),
         ("close", (1,)), ("close", (0,)), ("statement", (1,)),
         ("statement", (0,)), ("intensity", (1, 0)), ("intensity", (0, 3)),
@@ -371,13 +403,13 @@ def check_unsound(check, words):
 
 
 def lengths(check):
-    """Slices about 2,404 words long."""
-    for length in (0, 1, 4, 2403, 2404, 2405, 3000):
+    """Slices about 2,660 words long."""
+    for length in (0, 1, 4, 2404, 2659, 2660, 2661, 3000):
         words = [9] * length
         numbers = calls.make("fresh", words)
-        if length < 2404:
+        if length < 2660:
             check(numbers == [1] and words == [9] * length, "short", length)
-            sound = ([14083] + [0] * 2403)[:length]
+            sound = ([14083] + [0] * 2659)[:length]
             check(calls.make("open", sound, 1) == [1, 0], "short", length)
             check(calls.make("quote", sound, 1, 0, 1, 1, 0, 0) == [1, 0],
                   "short", length)
@@ -388,14 +420,14 @@ def lengths(check):
                   "short", length)
         else:
             check(numbers == [0], "long enough", length)
-            check(words == [14083] + [0] * 2403 + [9] * (length - 2404),
+            check(words == [14083] + [0] * 2659 + [9] * (length - 2660),
                   "fresh", length)
             check(calls.make("open", words, 1) == [0, 1], "open", length)
 
 
 def full_lists(check):
     """16, 64 and 256 records pass, one more is 8."""
-    words = [0] * 2404
+    words = [0] * 2660
     calls.make("fresh", words)
     for name, most, arguments in (
         ("open", 16, (3,)), ("post", 64, (16, 2, 5, 6, 7)),

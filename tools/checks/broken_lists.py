@@ -51,7 +51,7 @@ class Lines:
     def add_shares(self, number, operation, provision):
         """Changes the two shares of an element."""
         for place, more in ((6, operation), (7, provision)):
-            self.numbers[self.dump][8 * (number - 1) + place] += more
+            self.numbers[self.dump][9 * (number - 1) + place] += more
         statement = self.statements[self.tally.elements[number].chain]
         for place, more in ((3, operation), (4, provision),
                             (5, operation + provision)):

@@ -49,11 +49,11 @@ BOOK = (
     record(player.FRESH) + record(player.OPEN, 3)
     + record(player.POST, 1, 1, 5, 6, 7) + record(player.STRIKE, 1)
     + record(player.POST, 1, 0, 5, 6, 7)
-    + record(player.ENROL, 1, 1, 100, 2, 3)
+    + record(player.ENROL, 1, 1, 100, 2, 3, 75)
     + record(player.ENROL, 1, 1, 0, 4, 5)
     + record(player.QUOTE, 1, 1, 1000, 1, 2, 3)
     + record(player.STATEMENT, 1) + record(player.CLOSE, 1)
-    + record(player.STATEMENT, 1) + dump(0, 47) + dump(356, 25)
+    + record(player.STATEMENT, 1) + dump(0, 47) + dump(356, 28)
     + record(player.INTENSITY, 1, 100)
 )
 
@@ -91,7 +91,7 @@ def endings_in_files():
     add("loads between weights", weight(1) * 3 + LOADS + division(10, 3))
     add("no bytes", record(player.LOAD, 0) + WORDS)
     add("no bytes, twice", BOOK + record(player.LOAD, 0) * 2 + WORDS)
-    for lent in (0, 2403, 2404, 2405):
+    for lent in (0, 2404, 2659, 2660, 2661):
         add("loads with %d words lent" % lent,
             BOOK + record(player.LEND, lent) + LOADS)
     # Lengths, each with all its bytes and dumps after them.
@@ -198,7 +198,7 @@ def endings():
         weight(1) * 3 + BOOK + division(10, 3) + dump(0, 47))
     add("the last word written",
         BOOK + record(player.POKE, 2999, LARGEST) + dump(2999, 1))
-    for lent in (0, 1, 2403, 2404, 3000):
+    for lent in (0, 1, 2404, 2659, 2660, 3000):
         add("%d words lent" % lent, record(player.LEND, lent) + BOOK)
         add("%d words lent later" % lent,
             BOOK + record(player.LEND, lent) + BOOK)
@@ -213,7 +213,7 @@ def endings():
             record(player.POKE, index, 1) + dump(0, 4))
         add("poke of word %d after a book" % index,
             BOOK + record(player.POKE, index) + BOOK)
-    for count in (3001, 4096, 2 ** 16, 2 ** 32, 2 ** 32 + 2404, 2 ** 61,
+    for count in (3001, 4096, 2 ** 16, 2 ** 32, 2 ** 32 + 2660, 2 ** 61,
                   2 ** 63, LARGEST):
         add("%d words lent" % count, record(player.LEND, count) + BOOK)
         add("%d words lent after a book" % count,

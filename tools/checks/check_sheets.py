@@ -156,7 +156,7 @@ def refused_everywhere():
             record = records[place]
             # No kind, no category, or a field that must be 0.
             bad = {1: (0, 1), 2: (17, *record[1:]),
-                   3: (*record[:3], 1, *record[4:])}[table]
+                   3: (*record[:7], 1)}[table]
             with_bad = list(parts)
             with_bad[table - 1] = records[:place] + [bad] + records[place + 1:]
             yield ("refused at table %d record %d" % (table, place + 1),

@@ -16,9 +16,10 @@ FED = (player.OPEN, player.POST, player.STRIKE, player.ENROL, player.QUOTE,
 
 # "chain (1 to 10,000)"
 CHAINS = range(1, 10_001)
-# "from word 356, elements, 8 words: [...] operation share, provision share"
+# "from word 356, elements [...] operation share, provision share"; "Element
+# records get a ninth word"
 FIRST_SHARES = 362
-RECORD_WORDS = 8
+RECORD_WORDS = 9
 
 
 class Broken(Exception):
@@ -174,11 +175,13 @@ def check_shares(told):
         demand(told.shares(number) == (element.operation, element.provision),
                "the quoted element", number, "has", *told.shares(number))
     for category in tally.categories:
-        elements = {number: (*element, *told.shares(number))
+        # As the words of a record: kg per head is the last.
+        elements = {number: (*element[:6], *told.shares(number),
+                             element.kg_per_head)
                     for number, element in tally.enrolled(category).items()}
         if not tally.categories[category].closed:
             for number, element in elements.items():
-                demand(element[6:] == (0, 0),
+                demand(element[6:8] == (0, 0),
                        "element", number, "of an open category has shares")
             continue
         entries = tally.unstruck_entries(category)

@@ -39,13 +39,13 @@ ALONE = "03370000 00000000 20000000 00000000 20000000 00000000 20000000 "
 WRITTEN_OUT = (
     # "4 1 0 28980000000000 5040000000000 34020000000000" and "7 2 0
     # 9691000000000 1685000000000 11376000000000".
-    ("15 216; x" + EXAMPLE_BYTES + "; 8 4; 8 7; 14 0 8; 14 36 6; 14 356 25",
+    ("15 216; x" + EXAMPLE_BYTES + "; 8 4; 8 7; 14 0 8; 14 36 6; 14 356 28",
      "0 0 0; 0 1 0 28980000000000 5040000000000 34020000000000;"
      "0 2 0 9691000000000 1685000000000 11376000000000;"
      "14083 1 1 3 1 1 0 0; 1 0 38640000000000 6720000000000 0 0;"
-     "1 7 0 1000 300000 300000000 9660000000000 1680000000000 "
-     "1 4 0 3000 300000 900000000 28980000000000 5040000000000 "
-     "0 7 0 1000 500000 500000000 31000000000 5000000000 0"),
+     "1 7 0 1000 300000 300000000 9660000000000 1680000000000 0 "
+     "1 4 0 3000 300000 900000000 28980000000000 5040000000000 0 "
+     "0 7 0 1000 500000 500000000 31000000000 5000000000 0 0"),
     # A header alone; a byte more than it says; fewer bytes than a header; a
     # wrong first number; a section that begins too early, and past the end.
     ("1; 2 1; 15 32; x" + ALONE + "20000000; 14 0 6", "0; 0 1; 0 0 0;"
@@ -62,7 +62,7 @@ WRITTEN_OUT = (
      "0; 0 1; 12 0 0; 14083 1 0 0 1"),
     # A lent slice that is too short, and a book that is not sound. An array
     # of zeros is lent at first.
-    ("13 2403; 15 32; x" + ALONE + "20000000; 15 0; 14 0 2; 13 2404; 15 32; x"
+    ("13 2659; 15 32; x" + ALONE + "20000000; 15 0; 14 0 2; 13 2660; 15 32; x"
      + ALONE + "20000000; 12 0 9; 15 32; x" + ALONE + "20000000; 14 0 2",
      "1 0 0; 1 0 0; 0 0; 0 0 0; 0 0 0; 14083 0"),
     # Kinds 3 and 2, the second with the flag 2: the first is left. Then with
@@ -100,15 +100,15 @@ def example(check):
     check(len(data) == 216 and data == EXAMPLE, "the bytes of the example")
     words = [5] * 3000
     check(loading.load(words, data) == (0, 0, 0), "the example is loaded")
-    wanted = [0] * 2404 + [5] * 596
+    wanted = [0] * 2660 + [5] * 340
     wanted[:6] = [14083, 1, 1, 3, 1, 1]
     wanted[36:41] = [1, 0, 38_640_000_000_000, 6_720_000_000_000, 0]
-    wanted[356:380] = [
+    wanted[356:383] = [
         1, 7, 0, 1000, 300_000, 300_000_000, 9_660_000_000_000,
-        1_680_000_000_000,
+        1_680_000_000_000, 0,
         1, 4, 0, 3000, 300_000, 900_000_000, 28_980_000_000_000,
-        5_040_000_000_000,
-        0, 7, 0, 1000, 500_000, 500_000_000, 31_000_000_000, 5_000_000_000]
+        5_040_000_000_000, 0,
+        0, 7, 0, 1000, 500_000, 500_000_000, 31_000_000_000, 5_000_000_000, 0]
     check(words == wanted, "the words of the example")
     # "chain elements waiting operation provision total"
     for chain, numbers in (
@@ -160,7 +160,7 @@ def headers(check):
     """Random headers by both ways, many of them near to a right one."""
     rng = random.Random(SEED)
     met = {}
-    words = [0] * 2404
+    words = [0] * 2660
     for turn in range(20_000):
         length = rng.randrange(32, 200)
         edges = sorted(rng.randrange(32, length + 1) for _ in range(3))
@@ -193,7 +193,7 @@ def by_operations(before, data):
         return played.play(player.RECORD.pack(
             OPERATIONS[name], *arguments, *[0] * (7 - len(arguments))))[0]
 
-    refusal = second_loading.refusal_of_header([0] * 2404, data)
+    refusal = second_loading.refusal_of_header([0] * 2660, data)
     if refusal != 0:
         return [refusal, 0, 0], played.state.words
     play("fresh")
@@ -235,7 +235,8 @@ def files_by_operations(check):
             add(changed_header(data, rng))
         add(changed_header(changed_byte(data, rng), rng))
     for key in ((0, 0), (11, 0), (12, 0), (13, 1), (3, 1), (2, 2), (3, 2),
-                (7, 2), (2, 3), (3, 3), (6, 3), (7, 3), (13, 3), (9, 4)):
+                (7, 2), (2, 3), (3, 3), (6, 3), (14, 3), (7, 3), (13, 3),
+                (9, 4)):
         check(met.get(key, 0) > 1, "met", key, met)
 
 
@@ -261,7 +262,7 @@ def list_of_load(data, numbers, words):
             chains.add(arguments[0 if name == "quote" else 1])
     asked = player.Player()
     asked.state.words[:len(words)] = words
-    for record in [(player.DUMP, 356, 2048)] + [
+    for record in [(player.DUMP, 356, 2304)] + [
             (player.STATEMENT, chain, 0) for chain in sorted(chains)]:
         listed.append((*record, *[0] * 5))
         asked.play(player.RECORD.pack(*listed[-1]))
@@ -293,7 +294,7 @@ def loads_conserve(check, loads):
     handed_out = stopped = 0
     for data, numbers, words in loads:
         if numbers[0] == 0 or numbers[1] > 0:
-            told = check_conserved(check, data, numbers, words[:2404])
+            told = check_conserved(check, data, numbers, words[:2660])
             handed_out += any(sum(told.shares(number)) > 0
                               for number in told.tally.elements)
             stopped += numbers[1] > 0
@@ -347,7 +348,7 @@ WRONG = (
 
 def wrong_programs(check):
     def is_caught(wrongly, data):
-        words = [0] * 2404
+        words = [0] * 2660
         loading.load(words, file_parts.WHOLE)
         numbers = wrong_load(words, data, **wrongly)
 
@@ -370,22 +371,22 @@ def wrong_programs(check):
 def lengths_of_slices(check):
     """The words of a slice that is too short stay; those behind the book
     too."""
-    for length in (0, 1, 2403, 2404, 2405, 3000):
+    for length in (0, 1, 2404, 2659, 2660, 2661, 3000):
         for data, refusal in ((EXAMPLE, 0), (b"", 11),
                               (with_header(EXAMPLE, entries_offset=0), 12)):
             words = [9] * length
             numbers = loading.load(words, data)
-            if length < 2404:
+            if length < 2660:
                 check(numbers == (1, 0, 0), "short", length)
             else:
                 check(numbers == (refusal, 0, 0), "long enough", length)
-            if length < 2404 or refusal != 0:
+            if length < 2660 or refusal != 0:
                 check(words == [9] * length, "untouched", length, refusal)
-            check(words[2404:] == [9] * max(0, length - 2404), "behind")
+            check(words[2660:] == [9] * max(0, length - 2660), "behind")
 
 
 def full_file(check):
-    words = [9] * 2404
+    words = [9] * 2660
     data = file_of(*file_parts.full_parts())
     check(loading.load(words, data) == (0, 0, 0), "a full file")
     check(words[:4] == [14083, 16, 64, 256], "a full book")

@@ -47,6 +47,25 @@ WRITTEN_OUT = (
               (1, 1, 400, 0, 1, 1, 0, 0)]),
      HEADING + b"1 1 0 5 0 5\n9 1 0 1 0 1\n10000 1 0 3 0 3\n"
      b"all 3 0 9 0 9\n"),
+    # The same with 50 kg per head: 5, 1, 3. Then a mixture, either way, and
+    # 301 kg.
+    (file_of([(3, 1)], [(1, 0, 1, 9, 0)],
+             [(1, 10_000, 0, 0, 100, 1, 0, 0), (1, 9, 100, 50, 1, 1, 0, 0),
+              (1, 1, 400, 50, 1, 1, 0, 0)]),
+     HEADING + b"1 1 0 3 0 3\n9 1 0 1 0 1\n10000 1 0 5 0 5\n"
+     b"all 3 0 9 0 9\n"),
+    (file_of([(3, 1)], (), [(1, 9, 100, 50, 1, 1, 0, 0),
+                            (1, 1, 400, 0, 1, 1, 0, 0)]),
+     b"refused 14 3 2\n"),
+    (file_of([(3, 1)], (), [(1, 9, 100, 0, 1, 1, 0, 0),
+                            (1, 1, 400, 301, 1, 1, 0, 0)]),
+     b"refused 14 3 2\n"),
+    (file_of([(3, 1)], (), [(1, 9, 100, 301, 1, 1, 0, 0)]),
+     b"refused 7 3 1\n"),
+    (file_of([(1, 1)], (), [(1, 9, 100, 80, 1, 1, 0, 0)]),
+     b"refused 6 3 1\n"),
+    (file_of([(3, 1)], (), [(1, 9, 50, 80, 1, 1, 0, 0)]),
+     b"refused 13 3 1\n"),
     # "A 8, B1 5, ambient 100, chilled 300: 2 and 11", in provision; and the
     # same in a category that stays open, on the same chain.
     (file_of([(1, 1), (1, 0)],
@@ -116,13 +135,13 @@ def written_out(check):
 def second_sheet(data):
     """The sheet once more: element after element is added to the line of its
     chain, and the lines to the last."""
-    words = [0] * 2404
+    words = [0] * 2660
     numbers = second_load(words, data)
     if numbers != [0, 0, 0]:
         return b"refused %d %d %d\n" % tuple(numbers)
     lines = {}
-    for place in range(356, 356 + 8 * words[3], 8):
-        category, chain, *_, operation, provision = words[place:place + 8]
+    for place in range(356, 356 + 9 * words[3], 9):
+        category, chain, *_, operation, provision, _ = words[place:place + 9]
         waits = category > 0 and words[3 + 2 * category] == 0
         added = (1, waits, operation, provision, operation + provision)
         lines[chain] = [old + new for old, new
