@@ -294,6 +294,40 @@ def close_once(words, category):
     return []
 
 
+def with_other_words(words, category, index_of, value_of):
+    """Closes while a word of each weighed passenger element of the category
+    holds something else."""
+    old = {}
+    for number, element in enumerate(Book(words).elements, 1):
+        if element.category == category and element.kg_per_head > 0:
+            index = word(ELEMENTS, number, index_of)
+            old[index] = words[index]
+            words[index] = value_of(element)
+    calls.close(words, category)
+    for index, value in old.items():
+        words[index] = value
+    return []
+
+
+def close_by_standard_mass(words, category):
+    """P by 100 kg per head, although it is weighed."""
+    return with_other_words(words, category, "kg_per_head",
+                            lambda element: 0)
+
+
+def close_by_mass_among_passengers(words, category):
+    """The passenger part by stated mass, and not by class."""
+    return with_other_words(
+        words, category, "activity", lambda element:
+        element.amount * element.kg_per_head * element.distance)
+
+
+def enrol_unweighed(words, category, chain, code, amount, distance,
+                    kg_per_head):
+    """The stated mass is not kept."""
+    return calls.enrol(words, category, chain, code, amount, distance)
+
+
 def strike_nothing(words, entry):
     return []
 
@@ -320,6 +354,22 @@ WRONG = {
     "statement": (statement_of_none_waiting,),
 }
 
+# Those that need weighed passengers.
+WRONG_WHERE_WEIGHED = (
+    ("close", close_by_standard_mass),
+    ("close", close_by_mass_among_passengers),
+    ("enrol", enrol_unweighed),
+)
+
+# A 900, F 100, one head of 50 kg each of codes 100 and 400 over 1 m: 450, 90,
+# 360. By 100 kg per head it would be 300, 120, 480.
+WEIGHED = tuple((*record, *[0] * (8 - len(record))) for record in (
+    (player.FRESH,), (player.OPEN, 3), (player.POST, 1, 0, 1, 900, 0),
+    (player.ENROL, 1, 1, 0, 100, 1, 0), (player.ENROL, 1, 2, 100, 1, 1, 50),
+    (player.ENROL, 1, 3, 400, 1, 1, 50), (player.CLOSE, 1),
+    (player.DUMP, 356, 2304), (player.STATEMENT, 1), (player.STATEMENT, 2),
+    (player.STATEMENT, 3)))
+
 
 def played_wrongly(records, name, act):
     """The lines of a program that does this for the call."""
@@ -341,7 +391,24 @@ def wrong_programs(check, records):
     check(broken_by(records, lines) is None, "the right program")
 
 
+def wrong_where_weighed(check, lists):
+    """By the short list, and closings by one of the long ones, whose measures
+    are large enough."""
+    lines = played_wrongly(WEIGHED, "close", calls.close)
+    check(broken_by(WEIGHED, lines) is None, "the right program")
+    check([line.split()[3] for line in lines[-3:]] == ["450", "90", "360"],
+          "weighed", lines[-3:])
+    for name, act in WRONG_WHERE_WEIGHED:
+        # Where enrol is wrong, other calls of a long list are accepted.
+        shown_by = [WEIGHED] if name == "enrol" else [WEIGHED, lists[-1][0]]
+        for records in shown_by:
+            broken = broken_by(records, played_wrongly(records, name, act))
+            check(broken is not None and "from the exact share" in broken,
+                  act.__name__, "breaks", broken)
+
+
 def run(check, lists):
     """A list is its records, its lines and what they told."""
     changed_lines(check, lists)
     wrong_programs(check, lists[0][0])
+    wrong_where_weighed(check, lists)

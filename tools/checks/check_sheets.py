@@ -167,6 +167,41 @@ def refused_everywhere():
             [element for element in elements if element[0] != number]))
 
 
+def weighed():
+    """A full book with other stated masses, and with one passenger at a time
+    who is weighed where the others are not, or the reverse; the most
+    passengers."""
+    categories, entries, elements = full_parts()
+    passengers = [place for place, element in enumerate(elements)
+                  if element[2] >= 100]
+    for name, mass_of in (
+        ("unweighed", lambda place: 0), ("1 kg", lambda place: 1),
+        ("100 kg", lambda place: 100), ("300 kg", lambda place: 300),
+        ("1 to 300 kg", lambda place: 1 + 7 * place % 300),
+        ("301 kg", lambda place: 301),
+    ):
+        others = [changed(element, adjust=mass_of(place))
+                  if place in passengers else element
+                  for place, element in enumerate(elements)]
+        yield ("a full book, passengers " + name,
+               file_of(categories, entries, others))
+    for place in passengers:
+        for kg_per_head in (0, 75, 301):
+            others = list(elements)
+            others[place] = changed(elements[place], adjust=kg_per_head)
+            yield ("a full book, element %d of %d kg per head"
+                   % (place + 1, kg_per_head),
+                   file_of(categories, entries, others))
+    # 25 times 10^6 heads over 40,000 km, of unlike classes.
+    most = [(1, 1 + number, 1000 - number, 300 - number, 10 ** 6, FARTHEST, 0,
+             0) for number in range(25)]
+    for kind in (2, 3):
+        yield ("most passengers, kind %d" % kind, file_of(
+            [(kind, 1)], [(1, 0, 10 ** 12, 10 ** 6, 10 ** 6 - 1)], most))
+        yield ("most passengers and one more, kind %d" % kind, file_of(
+            [(kind, 1)], (), [*most, (1, 1, 100, 1, 1, 1, 0, 0)]))
+
+
 def random_files(rng):
     """Files that are loaded, and the same with damage."""
     for most, times in (((1, 2, 3), 60), ((3, 5, 9), 60), ((5, 12, 30), 40),
@@ -182,7 +217,7 @@ def random_files(rng):
 
 def all_files(seed):
     return [*examples(), *written_out(), *lengths(), *chains(), *amounts(),
-            *refused_everywhere(), *stored_files(),
+            *refused_everywhere(), *weighed(), *stored_files(),
             *random_files(random.Random(seed))]
 
 

@@ -304,10 +304,10 @@ def loads_conserve(check, loads):
 # Programs that load wrongly.
 
 def wrong_load(words, data, fresh=True, goes_on=False, closings=None,
-               twice=False, empties=False):
+               twice=False, empties=False, unweighed=False):
     """Loads with what is told of it wrong: without fresh, going on after a
-    stop, closing others than those flagged, the last element twice, or
-    leaving an empty book after a stop."""
+    stop, closing others than those flagged, the last element twice, leaving
+    an empty book after a stop, or passing over kg per head."""
     if fresh:
         calls.make("fresh", words)
     steps = list(loading.steps(data))
@@ -315,6 +315,9 @@ def wrong_load(words, data, fresh=True, goes_on=False, closings=None,
         steps = [step for step in steps if step.name != "close"]
         steps += [loading.Step(4, number, False, "close", (number,))
                   for number in closings]
+    if unweighed:
+        steps = [step._replace(arguments=step.arguments[:5])
+                 if step.name == "enrol" else step for step in steps]
     elements = [step for step in steps if step.table == 3]
     if twice:
         steps.insert(steps.index(elements[-1]), elements[-1])
@@ -343,6 +346,7 @@ WRONG = (
     ({"closings": (1, 4)}, file_parts.WHOLE),
     ({"twice": True}, EXAMPLE),
     ({"empties": True}, LATE_STOP),
+    ({"unweighed": True}, file_parts.WHOLE),
 )
 
 
