@@ -4,8 +4,9 @@
     python3 bench/files.py DIRECTORY
 
 example.qm is document 01's example, full.qm a full book with every category
-closed. last-element.qm and last-closing.qm are that book refused at its last
-element and at its last closing. The bytes are the same each time.
+closed, weighed.qm the same with every passenger weighed. last-element.qm and
+last-closing.qm are the full book refused at its last element and at its last
+closing. The bytes are the same each time.
 """
 
 import os
@@ -66,6 +67,14 @@ def elements():
     return listed
 
 
+def weighed():
+    """Passengers of 1 to 300 kg per head."""
+    return [(category, chain, code, spread(number, 1, 300), *rest)
+            if code >= 100 else (category, chain, code, adjust, *rest)
+            for number, (category, chain, code, adjust, *rest)
+            in enumerate(elements())]
+
+
 def last_element():
     """The chain of the last element is 10,001: refused with 3."""
     listed = elements()
@@ -88,6 +97,7 @@ def main():
     for name, data in (
         ("example", EXAMPLE),
         ("full", file_of(categories(), entries(), elements())),
+        ("weighed", file_of(categories(), entries(), weighed())),
         ("last-element", file_of(categories(), entries(), last_element())),
         ("last-closing", file_of(categories(), entries(), last_closing())),
     ):

@@ -1,6 +1,7 @@
 // The whole job of document 01's printing program in plain Rust: a file from standard input, its sheet to standard
-// output, with the class total of document 02. It is a baseline for instruction counts, written from these papers and
-// proved nowhere. `sheet` is the job itself, without the start of the process, the reading and the writing.
+// output, with the class total and the weighed passengers of document 02. It is a baseline for instruction counts,
+// written from these papers and proved nowhere. `sheet` is the job itself, without the start of the process, the reading
+// and the writing.
 use std::io::{self, Read, Write};
 
 const MARK: u32 = 14083;
@@ -29,6 +30,7 @@ const MOST_EMISSIONS: u128 = 1_000_000_000_000_000_000;
 const MOST_ACTIVITY: u64 = 100_000_000_000_000_000;
 
 const KG_PER_PASSENGER: u64 = 100;
+const MOST_KG_PER_HEAD: u32 = 300;
 const AIR_DEFAULT: u64 = 95_000;
 
 // Grounds of refusal. A file's calls meet no others: nothing is closed before the last element has come.
@@ -43,6 +45,7 @@ const PAST_LIMIT: Ground = 10;
 const BAD_FILE: Ground = 11;
 const BAD_SECTION: Ground = 12;
 const BAD_FIELD: Ground = 13;
+const MIXED: Ground = 14;
 
 // An operation and a provision amount.
 type Amounts = [u64; 2];
@@ -75,6 +78,8 @@ fn divide(pool: u64, weights: &[u64], shares: &mut [u64]) {
 struct Category {
     kind: u32,
     closed: bool,
+    // Whether its passengers are weighed, where it has some.
+    weighed: Option<bool>,
     // Places of its elements in the book's list.
     members: Vec<usize>,
 }
@@ -94,6 +99,8 @@ struct Element {
     distance: u64,
     activity: u64,
     shares: Amounts,
+    // 0 for the standard mass of passengers, and for freight.
+    kg_per_head: u32,
 }
 
 // The elements that a pool is divided over: their places in the book's list, and their activities.
@@ -179,7 +186,7 @@ impl Book {
         if self.categories.len() == MOST_CATEGORIES {
             return Err(LIST_FULL);
         }
-        self.categories.push(Category { kind, closed: false, members: Vec::new() });
+        self.categories.push(Category { kind, closed: false, weighed: None, members: Vec::new() });
         Ok(())
     }
 
@@ -207,7 +214,15 @@ impl Book {
         Ok(())
     }
 
-    fn enrol(&mut self, category: u32, chain: u32, code: u32, amount: u64, distance: u64) -> Result<(), Ground> {
+    fn enrol(
+        &mut self,
+        category: u32,
+        chain: u32,
+        code: u32,
+        amount: u64,
+        distance: u64,
+        kg_per_head: u32,
+    ) -> Result<(), Ground> {
         let kind = self.kind_of(category)?;
         let freight = code <= 2;
         if chain == 0 || chain > LAST_CHAIN || !(freight || (100..=1000).contains(&code)) {
@@ -216,9 +231,13 @@ impl Book {
         if freight && kind == PASSENGERS || !freight && (kind == FREIGHT || kind == HUB) {
             return Err(UNSUITED);
         }
-        let most = if freight { MOST_MASS } else { MOST_HEADS };
+        let weighed = kg_per_head != 0;
+        if !freight && self.categories[category as usize - 1].weighed == Some(!weighed) {
+            return Err(MIXED);
+        }
+        let (most, most_kg) = if freight { (MOST_MASS, 0) } else { (MOST_HEADS, MOST_KG_PER_HEAD) };
         let right_distance = if kind == HUB { distance == 0 } else { (1..=FARTHEST).contains(&distance) };
-        if amount == 0 || amount > most || !right_distance {
+        if amount == 0 || amount > most || !right_distance || kg_per_head > most_kg {
             return Err(OUT_OF_RANGE);
         }
         if self.elements.len() == MOST_ELEMENTS {
@@ -233,8 +252,11 @@ impl Book {
         };
         self.activity = self.activity_with(limited)?;
         let category = category as usize;
+        if !freight {
+            self.categories[category - 1].weighed = Some(weighed);
+        }
         self.categories[category - 1].members.push(self.elements.len());
-        self.elements.push(Element { category, chain, code, amount, distance, activity, shares: [0; 2] });
+        self.elements.push(Element { category, chain, code, amount, distance, activity, shares: [0; 2], kg_per_head });
         Ok(())
     }
 
@@ -269,6 +291,7 @@ impl Book {
             distance,
             activity,
             shares: shares.map(|share| share as u64),
+            kg_per_head: 0,
         });
         Ok(())
     }
@@ -292,7 +315,8 @@ impl Book {
             let element = &self.elements[place];
             if element.code > 2 {
                 passengers.push(place, element.activity);
-                passenger_mass += element.amount * KG_PER_PASSENGER * element.distance;
+                let kg = if element.kg_per_head == 0 { KG_PER_PASSENGER } else { u64::from(element.kg_per_head) };
+                passenger_mass += element.amount * kg * element.distance;
                 continue;
             }
             freight.push(place, element.activity);
@@ -398,10 +422,12 @@ fn element_record(book: &mut Book, record: &[u8]) -> Result<(), Ground> {
         }
         return book.quote(chain, adjust, amount, distance, intensities);
     }
-    if adjust != 0 || intensities != [0, 0] {
+    // A passenger element has its kg per head there.
+    let passengers = (100..=1000).contains(&code);
+    if adjust != 0 && !passengers || intensities != [0, 0] {
         return Err(BAD_FIELD);
     }
-    book.enrol(category, chain, code, amount, distance)
+    book.enrol(category, chain, code, amount, distance, adjust)
 }
 
 fn load(file: &[u8]) -> Result<Book, Stopped> {
