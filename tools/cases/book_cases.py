@@ -50,7 +50,8 @@ def pairs_of_grounds():
 def sorts_of_closings():
     """Passengers alone have no groups."""
     return [sort + more for sort in SORTS for more in ("", " with groups")
-            if sort + more != "passengers with groups"]
+            if sort + more not in ("passengers with groups",
+                                   "weighed passengers with groups")]
 
 
 def added(counts, before):

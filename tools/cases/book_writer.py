@@ -21,7 +21,8 @@ UNSOUND = 1
 OPERATIONS = {name: operation for operation, name in player.CALLS.items()}
 
 # The sorts of closings; each may have something for a group too.
-SORTS = ("freight", "passengers", "both", "hub")
+SORTS = ("freight", "passengers", "weighed passengers", "both",
+         "both, weighed", "hub")
 
 
 def sort_of_closing(words, category):
@@ -29,10 +30,15 @@ def sort_of_closing(words, category):
     sums = closing.Sums(book.Book(words), category)
     if sums.kind == book.HUB:
         sort = "hub"
-    elif sums.F > 0 and sums.P > 0:
-        sort = "both"
+    elif sums.P == 0:
+        sort = "freight"
     else:
-        sort = "freight" if sums.F > 0 else "passengers"
+        weighed = any(element.kg_per_head > 0
+                      for element in sums.elements.values())
+        if sums.F > 0:
+            sort = "both, weighed" if weighed else "both"
+        else:
+            sort = "weighed passengers" if weighed else "passengers"
     groups = any(sums.B(group, amount) > 0
                  for group in closing.COLD_GROUPS for amount in book.AMOUNTS)
     return sort + " with groups" if groups else sort
