@@ -68,7 +68,8 @@ def pairs(cases):
     for kind in (2, 3):
         for first, second in ((100, 100), (1000, 100), (100, 1000)):
             for earlier in (0, 1, 100, 300):
-                for kg_per_head in (0, 1, 99, 100, 101, 300, 301, LARGEST):
+                for kg_per_head in (0, 1, 99, 100, 101, 300, 301, 2 ** 16,
+                                    2 ** 32, 2 ** 63, LARGEST):
                     gives = 7 if kg_per_head > 300 else 0
                     if (earlier == 0) != (kg_per_head == 0):
                         gives = 14
