@@ -143,8 +143,7 @@ def refused_ones_leave_nothing(cases):
 
 
 def all_categories(cases):
-    """16 categories, every other one weighed; in the first list as far as
-    the last."""
+    """16 categories, every other one weighed, then the others."""
     for turn in (0, 1):
         cases.new_book(*[2 + number % 2 for number in range(16)])
         for number in range(1, 17):
@@ -356,7 +355,8 @@ def damage_and_back(cases):
 
 
 def single_records(cases):
-    """One element with all its words: right, and then the record."""
+    """One element with all its words; whether it is right stands before
+    them."""
     cases.new_book(1, 2, 3, 4)
     cases.enrol(1, 1, 0, 1, 1)
     for right, element in (
@@ -523,7 +523,7 @@ def far_apart(cases):
     closed(cases, 3, [(0, 1000, 999)],
            [(0, 1, 1), (100, HEADS, FARTHEST, 300)], (0, 1000), (0, 999))
     cases.intensities(2)
-    # 10^18 over 1 and 10^16 less 1 kg: F gets 100 and a little more.
+    # F 1, P 10^16: of 10^18 freight has a little less than 100.
     cases.new_book()
     closed(cases, 3, [(0, EMISSIONS, EMISSIONS - 1)],
            [(0, 1, 1), (100, HEADS, FARTHEST, 250)],
