@@ -1,8 +1,9 @@
 """The tally: what the calls of a list came to, kept beside the book.
 
 Written from document 01, "Lists and the tally", and from document 02's
-weighed passengers. Sentences in quotation marks are their own. "The tally is kept beside the book and takes nothing from
-it. It is fed each call with its arguments and refusal number."
+weighed passengers. Sentences in quotation marks are their own. "The tally is
+kept beside the book and takes nothing from it. It is fed each call with its
+arguments and refusal number."
 """
 
 from collections import namedtuple
