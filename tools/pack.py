@@ -11,7 +11,8 @@ any order.
 
     category  kind, and close where it is to be closed
     entry     category group quantity operation provision
-    element   category chain code amount distance
+    element   category chain code amount distance, and kg where passengers
+              are weighed
     quote     chain mass distance operation provision, and adjust for the air
               adjustment
 
@@ -20,8 +21,10 @@ intensities of a quote. Categories, entries and elements, quotes among them,
 are numbered from 1 in the order of their lines; the three may be mixed. `#`
 begins a comment. A long number may have `_` or `,` between groups of three
 digits. `close` and `adjust` stand for `close 1` and `adjust 1`; left out they
-are 0. An element may have `adjust`, `operation` and `provision` as well, and
-is then refused by the ledger where they are not 0.
+are 0. `kg` is the kg per head of passengers; left out or 0 it is the standard
+100. In the file it is in the field adjust. An element that is not of
+passengers may have `adjust`, and any `operation` and `provision`; it is then
+refused by the ledger where they are not 0.
 Instead of a number `kind` may have the word freight, passengers, both or hub,
 `group` all, chilled or frozen, `code` ambient, chilled, frozen or lowest,
 which is 100.
@@ -29,22 +32,23 @@ which is 100.
     name      a chain's number and its name, which `quay` shows
 
 is not packed. Only the form is judged here. A record that the ledger refuses
-(kind 9, chain 0, an element with an intensity) is packed as it is: the
-refusal is printed by quaymeter. A text with a bad line gives no file: what is
-wrong goes to standard error, and the exit status is 1.
+(kind 9, chain 0, 301 kg per head, an element with an intensity) is packed as
+it is: the refusal is printed by quaymeter. A text with a bad line gives no
+file: what is wrong goes to standard error, and the exit status is 1.
 """
 
 import sys
 from collections import namedtuple
 
-from calculation.book import CHAINS, LISTINGS
+from calculation.book import (
+    CHAINS, FREIGHT_CODES, LISTINGS, PASSENGER_CODES, QUOTED)
 from cases.file_writer import (
     HEADER_BYTES, MOST_BYTES, SIZES, SMALL_FIELDS, file_of)
 from command.amounts import counted
 from command.fields import (
     ALWAYS_0, CATEGORY, CHAIN, DISTANCE, NUMBER, Wrong, as_thousands,
     expected_fields, flag, given_numbers, is_like_number, meant, must_be_0,
-    needed, number_of, record_numbers, shown)
+    needed, number_of, optional, record_numbers, shown)
 from command.texts import (
     Unreadable, carriage_returns, lines_of, read, without_comment,
     without_remark)
@@ -53,7 +57,8 @@ MOST_SHOWN = 10  # bad lines that are told of
 NO_TEXT = "%s is no text; save it as plain text, in UTF-8"
 NO_RECORD = "there is no record in this text"
 
-# A record: its table, and its fields in document 01's order.
+# A record: its table, and its fields in document 01's order; behind them `kg`
+# of an element, which the file has in its field adjust.
 Record = namedtuple("Record", "table fields")
 
 QUANTITY = needed("quantity",
@@ -62,6 +67,8 @@ FACTOR = "in mg CO2e per unit"
 INTENSITY = "in mg CO2e per tonne-km"
 CODE = needed("code", "for passengers their class in hundredths of the lowest, "
                       "100 to 1000")
+KG = optional("kg", "what each passenger weighs, 1 to 300; left out or 0 it is "
+                    "the standard 100")
 
 RECORDS = {
     "category": Record(1, (needed("kind"), flag("close"))),
@@ -71,7 +78,7 @@ RECORDS = {
     "element": Record(3, (
         CATEGORY, CHAIN, CODE, flag("adjust", offered=False),
         needed("amount", "in kg, or heads for passengers"), DISTANCE,
-        must_be_0("operation"), must_be_0("provision"))),
+        must_be_0("operation"), must_be_0("provision"), KG)),
     # Its category and its code are 0.
     "quote": Record(3, (
         ALWAYS_0, CHAIN, ALWAYS_0,
@@ -113,11 +120,32 @@ def record_of(name, words):
         raise Wrong("`%s` has no word before it that says what it is; records "
                     "are numbered by their order, and their lines have no "
                     "number" % shown(words[0]), expected_fields(name, fields))
-    given = given_numbers(
+    small = (*fields[:SMALL_FIELDS[table - 1]], KG)
+    numbers = record_numbers(name, fields, given_numbers(
         name, fields, words,
-        bits_of=lambda field: 32 if fields.index(field)
-        < SMALL_FIELDS[table - 1] else 64)
-    return table, record_numbers(name, fields, given)
+        bits_of=lambda field: 32 if field in small else 64))
+    return table, element_of(*numbers) if name == "element" else numbers
+
+
+def element_of(category, chain, code, adjust, *others):
+    """The numbers of an element in document 01's order. Of passengers the
+    adjust is their kg per head."""
+    *others, kg = others
+    passengers = category != QUOTED and code in PASSENGER_CODES
+    if kg != 0 and not passengers:
+        raise Wrong("`kg` for " + (
+            "a quote, which an element of category 0 is: a quote is of freight"
+            if category == QUOTED else
+            "freight, which is not weighed by the head: its mass is its amount"
+            if code in FREIGHT_CODES else
+            "code %d, which is none of passengers" % code),
+            "expected no `kg`: it is for passengers alone, whose code is 100 "
+            "to 1000")
+    if adjust != 0 and passengers:
+        raise Wrong("`adjust` for passengers: only a quote has an air "
+                    "adjustment", "expected no `adjust`; what each passenger "
+                    "weighs is `kg`, as in `kg 78`")
+    return (category, chain, code, kg if passengers else adjust, *others)
 
 
 def instead_of(name):

@@ -6,6 +6,7 @@ import os
 from unittest import mock
 
 from calculation import player
+from calculation.book import PASSENGER_CODES
 from calculation.sheet import sheet
 from cases.make_cases import ROOT
 from command import main
@@ -77,10 +78,16 @@ def text_of(categories, entries, elements):
     lines = ["category kind %d close %d" % record for record in categories]
     lines += ["entry category %d group %d quantity %d operation %d "
               "provision %d" % record for record in entries]
-    lines += ["element category %d chain %d code %d adjust %d amount %d "
-              "distance %d operation %d provision %d" % record
+    lines += ["element category %d chain %d code %d %s %d amount %d "
+              "distance %d operation %d provision %d" % (
+                  *record[:3], fourth_word(*record[:3]), *record[3:])
               for record in elements]
     return "\n".join(lines)
+
+
+def fourth_word(category, chain, code):
+    """The word for the field that has the kg per head of passengers."""
+    return "kg" if category != 0 and code in PASSENGER_CODES else "adjust"
 
 
 def tells_difference(check, what, act, *arguments):

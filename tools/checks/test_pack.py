@@ -28,6 +28,7 @@ LARGEST = 2 ** 64 - 1
 
 ENTRY = "entry category 1 group 2 quantity 3 operation 4 provision 5"
 ELEMENT = "element category 1 chain 2 code 3 amount 4 distance 5"
+PASSENGERS = "element category 1 chain 2 code 100 amount 4 distance 5"
 QUOTE = "quote chain 1 mass 2 distance 3 operation 4 provision 5"
 
 check = Checks()
@@ -87,6 +88,75 @@ def value_words():
         bad("category kind " + word, "did you mean `hub`?")
     bad("category freight", "did you mean `kind freight`?")
     bad(ENTRY.replace("quantity 3", "quantity all"), "`all` after `quantity`")
+
+
+def weighed():
+    """The kg per head of passengers, in the field adjust of the file."""
+    for code in (100, 101, 999, 1000):
+        line = PASSENGERS.replace("code 100", "code %d" % code)
+        for kg in (0, 1, 78, 100, 300, 301, LARGEST_U32):
+            good(line + " kg %d" % kg, (), (),
+                 [(1, 2, code, kg, 4, 5, 0, 0)])
+        good(line, (), (), [(1, 2, code, 0, 4, 5, 0, 0)])
+    good("element KG 1_000 category 1 chain 2 code lowest amount 4 distance 5",
+         (), (), [(1, 2, 100, 1000, 4, 5, 0, 0)])
+    good(PASSENGERS + " kg 78 adjust 0 operation 8 provision 9", (), (),
+         [(1, 2, 100, 78, 4, 5, 8, 9)])
+    # The kind of the category is for the ledger to judge.
+    good("category kind freight\n" + PASSENGERS + " kg 78", [(1, 0)], (),
+         [(1, 2, 100, 78, 4, 5, 0, 0)])
+    # Freight, what is none of both, and what is quoted hold 0.
+    alone = ("expected no `kg`: it is for passengers alone, whose code is 100 "
+             "to 1000")
+    quoted = "`kg` for a quote, which an element of category 0 is"
+    for line, code, what in (
+        (ELEMENT, 0, "`kg` for freight, which is not weighed by the head: its "
+                     "mass is its amount"),
+        (ELEMENT, 2, "`kg` for freight, which is not weighed by the head"),
+        *((ELEMENT, code, "`kg` for code %d, which is none of passengers"
+           % code) for code in (3, 50, 99, 1001, LARGEST_U32)),
+        *((ELEMENT.replace("category 1", "category 0"), code, quoted)
+          for code in (0, 50, 100)),
+    ):
+        line = line.replace("code 3", "code %d" % code)
+        for kg in (1, 78, 301):
+            bad(line + " kg %d" % kg, what, alone)
+        numbers = [(int("category 1" in line), 2, code, 0, 4, 5, 0, 0)]
+        good(line + " kg 0", (), (), numbers)
+        # The field itself, so that 13 can be seen.
+        good(line + " adjust 80", (), (), [(*numbers[0][:3], 80, 4, 5, 0, 0)])
+    for kg in (0, 1, 78):
+        bad(QUOTE + " kg %d" % kg, "a quote has no `kg`: only passengers are "
+            "weighed by the head, and a quote is of freight, by its `mass`",
+            "expected quote with chain, mass")
+    # An air adjustment is never taken for kg.
+    for line in (" adjust", " adjust 1", " adjust 78 kg 78"):
+        bad(PASSENGERS + line, "`adjust` for passengers: only a quote has an "
+            "air adjustment", "expected no `adjust`; what each passenger "
+            "weighs is `kg`, as in `kg 78`")
+
+
+def kg_as_a_unit():
+    """It is told as a unit where no number is behind it."""
+    for line in (ELEMENT.replace("amount 4", "amount 4 kg"),
+                 "element category 1 chain 2 code 3 distance 5 amount 4 kg",
+                 PASSENGERS.replace("amount 4", "amount 4 KG")):
+        bad(line, "no number after `kg`: a number stands without its unit, and "
+            "`kg` is a word of its own; `amount` is in kg, or heads for "
+            "passengers", "`kg` is what each passenger weighs, 1 to 300; left "
+            "out or 0 it is the standard 100")
+    bad(PASSENGERS.replace("element", "element kg"), "no number after `kg`",
+        "expected a whole number such as 12000000")
+    bad(PASSENGERS + " kg 78kg", "a number stands without its unit",
+        "`kg` is what each passenger weighs")
+    bad(PASSENGERS + " kg 78.5", "there are no decimals", "1 to 300")
+    bad(PASSENGERS + " kg 78 kg", "`kg` stands twice")
+    bad(PASSENGERS + " kg=78", "did you mean `kg 78`?")
+    for word in ("weight", "mass", "kg_per_head", "kg/head"):
+        bad(PASSENGERS + " %s 78" % word, "did you mean `kg`?")
+    bad(PASSENGERS.replace("amount", "weight"), "did you mean `amount`?")
+    for line in (QUOTE.replace("mass 2", "mass 2 kg"), QUOTE + " kg"):
+        bad(line, "`kg` is no word here: a number stands without its unit")
 
 
 LINES = ("category kind 1 close", QUOTE, "# the end")
@@ -267,8 +337,8 @@ def bad_lines():
     bad(ELEMENT.replace("amount 4", "amount x"), "`x` after `amount`",
         "`amount` is in kg, or heads for passengers")
     check(pack.packed("element category 1")[1][0].expected == "expected "
-          "element with category, chain, code, amount and distance",
-          "what is offered")
+          "element with category, chain, code, amount and distance; it may "
+          "have kg", "what is offered")
     bad("14083", "no record is called `14083`")
     bad("category", "missing: kind", "category with kind; it may have close")
     bad("category kind", "no number after `kind`", "expected freight (1)")
@@ -353,6 +423,8 @@ def widths():
                         (ENTRY, ("category", "group")),
                         (ELEMENT + " adjust 0 operation 0 provision 0",
                          ("category", "chain", "code", "adjust")),
+                        (PASSENGERS + " kg 0", ("category", "chain", "code",
+                                                "kg")),
                         (QUOTE + " adjust 1", ("chain", "adjust"))):
         words = line.split()
         for place in range(2, len(words), 2):
@@ -513,6 +585,8 @@ def voyage(data):
 
 good_lines()
 value_words()
+weighed()
+kg_as_a_unit()
 forms()
 notes()
 names()

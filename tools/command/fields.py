@@ -24,6 +24,10 @@ def flag(word, what="", offered=True):
     return Field(word, 0, 1, what, offered)
 
 
+def optional(word, what=""):
+    return Field(word, 0, None, what, True)
+
+
 def must_be_0(word):
     """A field that is taken, so that its refusal can be seen."""
     return Field(word, 0, None, "", False)
@@ -46,15 +50,25 @@ UNITS = ("kg", "g", "mg", "µg", "ug", "t", "tonne", "tonnes", "km", "m", "l",
          "litre", "litres", "kwh", "mj", "head", "heads", "tkm", "metres",
          "mile", "miles")
 
-# Words that are written for others of the same meaning.
-ALIKE = {"mass": "amount", "amount": "mass", "weight": "amount",
-         "fuel": "quantity", "length": "distance",
-         "terminal": "hub", "port": "hub", "warehouse": "hub",
-         "cargo": "freight", "goods": "freight", "mixed": "both",
-         "reefer": "chilled", "cold": "chilled", "cooled": "chilled",
-         "dry": "ambient", "seat": "lowest", "economy": "lowest",
-         "air": "adjust", "flight": "adjust"}
+# Words that are written for others of the same meaning; the first that is
+# not given yet is meant.
+ALIKE = {"mass": ("amount", "kg"), "amount": ("mass",),
+         "weight": ("amount", "kg"), "kg_per_head": ("kg",),
+         "kg/head": ("kg",), "fuel": ("quantity",), "length": ("distance",),
+         **dict.fromkeys(("terminal", "port", "warehouse"), ("hub",)),
+         **dict.fromkeys(("cargo", "goods"), ("freight",)),
+         "mixed": ("both",),
+         **dict.fromkeys(("reefer", "cold", "cooled"), ("chilled",)),
+         "dry": ("ambient",),
+         **dict.fromkeys(("seat", "economy"), ("lowest",)),
+         **dict.fromkeys(("air", "flight"), ("adjust",))}
 MOST_LIKE = 0.75  # from which on two words are alike
+
+# Words that a line of that name does not have, though others do.
+NO_PLACE = {
+    ("quote", "kg"): "a quote has no `kg`: only passengers are weighed by the "
+                     "head, and a quote is of freight, by its `mass`",
+}
 
 
 class Wrong(Exception):
@@ -85,8 +99,9 @@ def listed(words, last_joint="and"):
 
 def meant(word, known):
     """A question where the word is like a known one."""
-    like = ([ALIKE[word.lower()]] if ALIKE.get(word.lower()) in known
-            else difflib.get_close_matches(word.lower(), known, 1, MOST_LIKE))
+    like = ([other for other in ALIKE.get(word.lower(), ())
+             if other in known]
+            or difflib.get_close_matches(word.lower(), known, 1, MOST_LIKE))
     return "; did you mean `%s`?" % like[0] if like else ""
 
 
@@ -191,15 +206,18 @@ def expected_fields(name, fields):
             + ("; it may have %s" % listed(may) if may else ""))
 
 
-def why_no_field(name, word, before, known):
+def why_no_field(name, word, before, behind, known, given):
     """What is wrong with a word that is none of a line's; `before` is the
-    field whose number stands before it, None where there is none."""
+    field whose number stands before it, None where there is none, and
+    `behind` are the words behind it."""
     alone = "`%s` has no word before it that says what it is" % shown(word)
     if before is not None and re.fullmatch("[0-9]{3}", word):
         return alone + ("; between the groups of a long number stands `_` "
                         "and no space")
     if is_like_number(word):
         return alone
+    if (name, word.lower()) in NO_PLACE and is_number_next(behind):
+        return NO_PLACE[name, word.lower()]
     for field in known:
         if word.lower() in VALUES.get(field, ()):
             return alone + "; did you mean `%s %s`?" % (field, word.lower())
@@ -210,7 +228,22 @@ def why_no_field(name, word, before, known):
     if sign and field.lower() in known:
         return "`%s` is no word here; did you mean `%s %s`?" % (
             shown(word), field.lower(), shown(number) or "..")
-    return "`%s` is no word of `%s`" % (shown(word), name) + meant(word, known)
+    return "`%s` is no word of `%s`" % (shown(word), name) + meant(
+        word, [field for field in known if field not in given])
+
+
+def is_number_next(words):
+    return bool(words) and is_like_number(words[0])
+
+
+def why_no_number_next(field, before):
+    """What is wrong where no number stands behind the word of a field, which
+    may be meant as the unit of the number before it."""
+    what = "no number after `%s`" % field.word
+    if before is not None and field.word in UNITS:
+        what += (": a number stands without its unit, and `%s` is a word of "
+                 "its own%s" % (field.word, in_words(before)))
+    return what
 
 
 def given_numbers(name, fields, words, bare=(), bits_of=lambda field: 64):
@@ -226,19 +259,19 @@ def given_numbers(name, fields, words, bare=(), bits_of=lambda field: 64):
             field = next((known[other] for other in bare
                           if other not in given), None)
             if field is None:
-                raise Wrong(why_no_field(name, word, before, known),
+                raise Wrong(why_no_field(name, word, before, words, known,
+                                         given),
                             expected_fields(name, fields))
             words = [word, *words]
         elif field.word in given:
             raise Wrong("`%s` stands twice" % field.word,
                         expected_fields(name, fields))
-        elif field.alone is not None and not (
-                words and is_like_number(words[0])):
+        elif field.alone is not None and not is_number_next(words):
             given[field.word] = field.alone
             before = None
             continue
         if not words or words[0].lower() in known:
-            raise Wrong("no number after `%s`" % field.word,
+            raise Wrong(why_no_number_next(field, before),
                         expected_number(field))
         text, *words = words
         given[field.word] = number_of(text, field, bits_of(field))
