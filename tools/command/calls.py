@@ -26,7 +26,7 @@ CALLS = {
     "strike": Form((needed("entry"),), ("entry",), "strike 2"),
     "enrol": Form(
         fields_of("element", "category", "chain", "code", "amount",
-                  "distance"), (),
+                  "distance", "kg"), (),
         "enrol category 1 chain 7 code ambient amount 1_000 distance "
         "300_000"),
     "quote": Form(

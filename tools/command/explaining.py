@@ -10,7 +10,7 @@ from fractions import Fraction
 
 from calculation.book import (
     AIR_DEFAULT, AMOUNTS, FREIGHT_CODES, GROUPS, HUB, PASSENGER_CODES, QUOTED,
-    total)
+    is_weighed, total)
 from calculation.closing import COLD_GROUPS, Sums, nearest
 from calculation.dividing import portions_of
 from calculation.sheet import used_chains
@@ -22,25 +22,28 @@ from command.naming import amount_words, carried, group_word, with_name
 from command.programs import Differs
 
 LEAST_TOO_FAR = 3  # µg from the exact share
-KG_PER_HEAD = 100
+KG_PER_HEAD = 100  # where passengers are not weighed
 
 WIDTH = 102       # signs of a line, where its numbers allow it
 MOST_CHAINS = 12  # that are named where a chain is not there
 MOST_NAMED = 4    # elements or entries that are named in one line
 MOST_REMAINDERS = 8  # that are shown of a division
+MOST_WEIGHED = 12    # elements that are shown of P
 
 POOLS = ("A", "B1", "B2")  # by the group of entries
 # Where no entry is of a group.
 NO_ENTRY = ("no entry benefits all", "no entry of the chilled group",
             "no entry of the frozen group")
 
-# What a letter stands for; it is said where the letter first appears.
+# What a letter stands for; it is said where the letter first appears. P has a
+# meaning for each sort of passengers.
 LETTERS = {
     "A": "A, the entries that benefit all,",
     "B1": "B1, the entries of the chilled group,",
     "B2": "B2, the entries of the frozen group,",
     "F": "F, the activity of all its freight,",
     "P": "P, its passengers as %d kg each × distance," % KG_PER_HEAD,
+    "weighed P": "P, its passengers as what they weigh × distance,",
     "C": "C, the activity of all its passengers,",
 }
 
@@ -98,7 +101,7 @@ def compare(reckoned, told, what):
 def compare_sums(book, category, sums):
     """What is divided is what the shares of the category add up to, and what
     it is divided by is the activity of its elements. An activity has the
-    class of the passengers where P has their kg."""
+    class of the passengers where P has their kg, stated or standard."""
     elements = book.elements_of(category)
     for side in AMOUNTS:
         compare(sum(sums.pool(group, side) for group in GROUPS),
@@ -110,9 +113,14 @@ def compare_sums(book, category, sums):
     for letter, reckoned, told in (
             ("F", sums.F, total(freight, "activity")),
             ("C", sums.C, total(passengers, "activity")),
-            ("P", sums.P, sum(KG_PER_HEAD * element.activity // element.code
-                              for element in passengers))):
+            ("P", sums.P, sum(kg_of_head(element) * element.activity
+                              // element.code for element in passengers))):
         compare(reckoned, told, "category %d, %s" % (category, letter))
+
+
+def kg_of_head(element):
+    """What each passenger of an element counts against the freight."""
+    return element.kg_per_head or KG_PER_HEAD
 
 
 # The board.
@@ -131,6 +139,7 @@ class Board:
         for category, sums in self.sums.items():
             compare_sums(self.book, category, sums)
         self.said = set()
+        self.meant = {}
         self.known = {}
 
     def portions(self, pool, weights):
@@ -152,9 +161,13 @@ class Board:
         self.said.add(what)
         return new
 
-    def letter(self, letter):
-        """The letter, with what it stands for the first time."""
-        return LETTERS[letter] if self.is_new(letter) else letter
+    def letter(self, letter, meaning=None):
+        """The letter, with what it stands for where that is new: the first
+        time, or where it meant something else before."""
+        meaning = meaning or letter
+        known = self.meant.get(letter) == meaning
+        self.meant[letter] = meaning
+        return letter if known else LETTERS[meaning]
 
     def element(self, number):
         return self.book.elements[number - 1]
@@ -322,7 +335,8 @@ def part_of_A(board, number, side):
         lines.append("    there are no passengers: all of A goes to the "
                      "freight" if is_freight else
                      "    there is no freight: all of A goes to the "
-                     "passengers")
+                     "passengers" + ", whatever they weigh"
+                     * is_weighed(element.kg_per_head))
     if pool == 0:
         return lines + ["    the %s is 0: nothing to divide" % name], 0
     more, part = part_of(
@@ -428,15 +442,59 @@ def weight_lines(board, number):
     """These sums, where they have not been said of the category."""
     element, sums = board.element(number), board.category_sums(number)
     category, code = element.category, element.code
-    said = [(board.letter(letter), weight)
-            for letter, weight in weights_of(sums, code)
-            if board.is_new("weight", letter, category)]
+    lines = []
+    for letter, weight in weights_of(sums, code):
+        if not board.is_new("weight", letter, category):
+            continue
+        weighed = weighed_of(sums) if letter == "P" else {}
+        if weighed:
+            lines += weighed_lines(board, category, weighed, weight)
+        else:
+            lines.append("  category %d: %s is %s" % (
+                category, board.letter(letter), grouped(weight)))
     if (code in COLD_GROUPS and any(sums.B(code, side) for side in AMOUNTS)
             and board.is_new("weight", code, category)):
-        said.append(("S, the activity of its %s freight," % group_word(code),
-                     sums.S(code)))
-    return ["  category %d: %s is %s" % (category, letter, grouped(weight))
-            for letter, weight in said]
+        lines.append("  category %d: S, the activity of its %s freight, is %s"
+                     % (category, group_word(code), grouped(sums.S(code))))
+    return lines
+
+
+def weighed_of(sums):
+    """The passengers of a category by their numbers, where they are
+    weighed."""
+    return {number: element for number, element in sums.elements.items()
+            if is_weighed(element.kg_per_head)}
+
+
+def weighed_lines(board, category, weighed, P):
+    """P of weighed passengers, worked out for each element or for the first
+    of them."""
+    heading = "category %d: %s" % (category, board.letter("P", "weighed P"))
+    products = [weighed_product(board, number)
+                for number in list(weighed)[:MOST_WEIGHED]]
+    if len(weighed) == 1:
+        return fitted(1, heading, "is " + products[0])
+    rest = list(weighed.values())[MOST_WEIGHED:]
+    if rest:
+        products.append("and %s: %s" % (
+            counted(len(rest), "more element"),
+            grouped(sum(map(kg_by_distance, rest)))))
+    return (["  %s is the sum of" % heading]
+            + ["    " + product for product in products]
+            + ["    = " + grouped(P)])
+
+
+def weighed_product(board, number):
+    element = board.element(number)
+    return "%s: %s × %d kg × %s m = %s" % (
+        board.text.called("element", number), amount_words(element),
+        kg_of_head(element), grouped(element.distance),
+        grouped(kg_by_distance(element)))
+
+
+def kg_by_distance(element):
+    """What an element of passengers adds to P."""
+    return element.amount * kg_of_head(element) * element.distance
 
 
 def waiting_lines(board, number):

@@ -141,6 +141,7 @@ def called(place):
     for listing in reversed(LISTINGS):
         if place >= listing.start:
             record, field = divmod(place - listing.start, size(listing))
-            return "%s %d, %s" % (listing.form.__name__.lower(), record + 1,
-                                  listing.form._fields[field])
+            return "%s %d, %s" % (
+                listing.form.__name__.lower(), record + 1,
+                listing.form._fields[field].replace("_", " "))
     return "word %d" % place

@@ -58,6 +58,7 @@ answered in words; a refused call changes nothing and can be tried again. Only
     open freight
     post category 1 group all quantity 12_000_000 operation 3_220_000 provision 560_000
     enrol category 1 chain 7 code ambient amount 1_000 distance 300_000
+    enrol category 2 chain 9 code lowest amount 40 distance 300_000 kg 78
     quote chain 7 mass 1_000 distance 500_000 operation 62_000 provision 10_000
     strike 1
     close 1

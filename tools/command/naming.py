@@ -46,7 +46,16 @@ def carried(held, element):
            else "over %s m" % grouped(element.distance))
     what = ("" if element.category == book.QUOTED
             else code_words(element.code) + ", ")
-    return "%s%s %s" % (what, amount_words(element), way)
+    return "%s%s%s %s" % (what, amount_words(element), weight_words(element),
+                          way)
+
+
+def weight_words(element):
+    """What each of an element's passengers weighs, where they are weighed."""
+    if not book.is_weighed(element.kg_per_head):
+        return ""
+    return " of %d kg%s" % (element.kg_per_head,
+                            " each" if element.amount > 1 else "")
 
 
 def plainly_called(word, number):

@@ -383,6 +383,8 @@ WHAT_FOR = {
 MORE = {
     "strike": "an entry is struck once and stays struck; its number is not "
               "given again",
+    "enrol": "the passengers of a category are all weighed, each element with "
+             "its `kg`, or none is",
     "close": "it stays closed, and takes no more entries, elements or strikes",
     "intensity": "it is in whole mg: what benefits all and what benefits the "
                  "group are rounded apart, halves up, and then added",

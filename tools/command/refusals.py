@@ -17,15 +17,15 @@ from command.programs import Differs
 
 # Each number with its meaning.
 MEANINGS = {
-    1: "the book is shorter than 2,404 words, or is not sound",
+    1: "the book is shorter than 2,660 words, or is not sound",
     2: "there is no category or entry of that number",
     3: "a kind, group, chain, code or adjust is none of its values",
     4: "the category is closed, or the entry is struck already",
     5: "the category is still open",
     6: "freight among passengers, passengers among freight or in a hub, or a "
        "group for passengers",
-    7: "a quantity, factor, mass, head count, distance or intensity is out "
-       "of range",
+    7: "a quantity, factor, mass, head count, kg per head, distance or "
+       "intensity is out of range",
     8: "the list is full: 16 categories, 64 entries, 256 elements and quotes",
     9: "there is nothing to divide by: no elements, or none of a group",
     10: "the book would pass 10^18 µg in operation or provision or 10^17 of "
@@ -33,6 +33,8 @@ MEANINGS = {
     11: "the file is under 32 or over 16,384 bytes, or its header is wrong",
     12: "a section begins too early or ends past the file",
     13: "a flag is above 1, or a field that must be 0 is not",
+    14: "passengers are weighed where earlier ones of their category are not, "
+        "or the reverse",
 }
 
 # How one speaks of records: how one is called, from its table's word and its
@@ -147,6 +149,37 @@ def unsuited(refused):
             called, taken, code, code_words(code)))
 
 
+def mixture(refused):
+    """The reasons of 14: the first passengers of the category that are the
+    reverse."""
+    category, code, kg = (refused.arguments.get(word)
+                          for word in ("category", "code", "kg"))
+    earlier = [(number, element.kg_per_head) for number, element
+               in enumerate(refused.book.elements, 1)
+               if element.category == category
+               and element.code in book.PASSENGER_CODES
+               and book.is_weighed(element.kg_per_head)
+               != book.is_weighed(kg)]
+    if code not in book.PASSENGER_CODES or not earlier:
+        return
+    number, earlier_kg = earlier[0]
+    place = "%s of %s has" % (refused.called("element", number),
+                              refused.called("category", category))
+    if book.is_weighed(kg):
+        yield Reason(
+            "weighed passengers in category %d, which has unweighed ones"
+            % category,
+            "%s no `kg`: leave it out here, or weigh all passengers of the "
+            "category%s" % (place, "; a stated 100 is weighed too"
+                            * (kg == book.PASSENGER_MASS)))
+    else:
+        yield Reason(
+            "unweighed passengers in category %d, which has weighed ones"
+            % category,
+            "%s `kg %d`: say by `kg` what these weigh too, 1 to 300, or leave "
+            "it out for all passengers of the category" % (place, earlier_kg))
+
+
 def out_of_range(refused):
     """The reasons of 7."""
     for word, name, values, unit in measures(refused):
@@ -154,10 +187,17 @@ def out_of_range(refused):
         if number not in values:
             look = ("expected %s to %s, in %s" % (
                 grouped(values[0]), grouped(values[-1]), unit)
-                if len(values) > 1 else
-                "a hub has no distances: write `distance 0`")
+                if len(values) > 1 else ONLY_0[word])
             yield Reason("%s %s is out of range" % (name, grouped(number)),
                          look)
+
+
+# What is to be done where a measure is 0 alone.
+ONLY_0 = {
+    "distance": "a hub has no distances: write `distance 0`",
+    "kg": "freight is not weighed by the head, and its mass is its amount: "
+          "leave `kg` out",
+}
 
 
 def measures(refused):
@@ -168,13 +208,17 @@ def measures(refused):
         for word in book.AMOUNTS:
             yield (word, word + " factor", book.FACTORS, "mg CO2e per unit")
     if refused.name == "enrol":
-        passengers = refused.arguments["code"] in book.PASSENGER_CODES
-        yield ("amount", "amount", book.amounts_of(refused.arguments["code"]),
+        code = refused.arguments["code"]
+        passengers = code in book.PASSENGER_CODES
+        yield ("amount", "amount", book.amounts_of(code),
                "heads" if passengers else "kg")
         kind = refused.book.kind(refused.arguments["category"])
         yield ("distance",
                "in a freight hub distance" if kind == book.HUB
                else "distance", book.distances_of(kind), "m")
+        yield ("kg", "kg per head" if passengers else
+               "for freight kg per head", book.kg_per_head_of(code),
+               "kg, and 0 is the standard 100")
     if refused.name == "quote":
         yield "mass", "mass", book.MASSES, "kg"
         yield "distance", "distance", book.DISTANCES, "m"
@@ -266,8 +310,9 @@ def over_limit(refused):
     would = book.whole_activity(refused.book) + activity
     if would > book.MOST_ACTIVITY:
         yield Reason("more than 10^17 of activity",
-                     "kg × m over all elements, a head counted as 100 kg and "
-                     "a hub without m, would add up to %s" % grouped(would))
+                     "kg × m over all elements, a head counted as 100 kg, "
+                     "weighed or not, and a hub without m, would add up to %s"
+                     % grouped(would))
 
 
 def added(refused):
@@ -290,8 +335,8 @@ def added(refused):
 
 REASONS = {
     2: no_such_number, 3: no_such_value, 4: closed_or_struck, 5: still_open,
-    6: unsuited, 7: out_of_range, 8: full, 9: nothing_to_divide_by,
-    10: over_limit,
+    6: unsuited, 14: mixture, 7: out_of_range, 8: full,
+    9: nothing_to_divide_by, 10: over_limit,
 }
 
 
@@ -347,8 +392,9 @@ def bad_field(record):
         yield Reason("code %d for an element of category 0" % code,
                      "an element of category 0 is a quote, and its code is 0")
         return
+    passengers = code in book.PASSENGER_CODES
     given = [word for word, number in (
-        ("adjust", adjust), ("operation", operation),
+        ("adjust", 0 if passengers else adjust), ("operation", operation),
         ("provision", provision)) if number != 0]
     yield Reason("%s for an element of a category" % listed(given),
                  "only a quote has an air adjustment or intensities; an "
