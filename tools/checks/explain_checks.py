@@ -59,9 +59,9 @@ def entry(group, operation, provision=0):
             % (group, operation, provision))
 
 
-def element(chain, code, amount, distance=1):
-    return "element category 1 chain %d code %s amount %d distance %d" % (
-        chain, code, amount, distance)
+def element(chain, code, amount, distance=1, kg=None):
+    return "element category 1 chain %d code %s amount %d distance %d%s" % (
+        chain, code, amount, distance, "" if kg is None else " kg %d" % kg)
 
 
 def quote(mass, distance, operation, provision=0, ending=""):
@@ -73,6 +73,8 @@ def quote(mass, distance, operation, provision=0, ending=""):
 # 1 m: 3, 1, 5."
 BOTH = [category("both"), entry("all", 9), element(1, "ambient", 100),
         element(1, 100, 1), element(2, 400, 1)]
+# The same with heads of 50 kg: 5, 1, 3.
+LIGHT = [*BOTH[:3], element(1, 100, 1, kg=50), element(2, 400, 1, kg=50)]
 # "A 8, B1 5, ambient 100, chilled 300: 2 and 11."
 CHILLED = [category("freight"), entry("all", 8), entry("chilled", 5),
            element(1, "ambient", 100), element(2, "chilled", 300)]
@@ -118,6 +120,86 @@ def both_kinds(check):
         "largest of 2: it gets one share: 5 µg",
         "= 4 4/5; the share is 1/5 µg above it")
     check("lowest terms" not in board_of(EQUAL, 1), "in lowest terms already")
+
+
+def weighed(check):
+    """P of weighed passengers is worked out, and A divided by it."""
+    check_in_order(
+        check, board_of(LIGHT, 1),
+        "element 1 (line 3): category 1, ambient freight, 100 kg over 1 m",
+        "category 1: F, the activity of all its freight, is 100 category 1: P, "
+        "its passengers as what they weigh × distance, is the sum of element 2 "
+        "(line 4): 1 head × 50 kg × 1 m = 50 element 3 (line 5): 1 head × 50 "
+        "kg × 1 m = 50 = 100 operation A,",
+        "freight: A × F / (F + P) = 9 × 100 / 200 = 4 1/2: floor 4, remainder "
+        "100 (100 / 200 is 1/2 in lowest terms) passengers: A × P / (F + P) = "
+        "9 × 100 / 200 = 4 1/2: floor 4, remainder 100 1 µg is left over; the "
+        "remainders are equal, so it goes to the freight, which comes first "
+        "freight part 5, passenger part 4",
+        "share: 5 µg", "exact share: A × activity / (F + P) = 4 1/2;",
+        "element 2 (line 4): category 1, passenger class 100, 1 head of 50 kg "
+        "over 1 m activity: 1 head × class 100 × 1 m = 100 category 1: C, the "
+        "activity of all its passengers, is 500",
+        "passenger part × activity / C = 4 × 100 / 500 = 4/5: floor 0, "
+        "remainder 400", "it gets one share: 1 µg",
+        "exact share: A × P × activity / ((F + P) × C) = 9/10; the share is "
+        "1/10 µg above it")
+    check_in_order(
+        check, board_of(LIGHT, 2), "4 × 400 / 500 = 3 1/5: floor 3, remainder "
+        "100", "it gets none share: 3 µg", "= 3 3/5; the share is 3/5 µg below")
+    check(board_of(LIGHT, 1).count("= 50 = 100") == 1, "P once")
+    # As the standard mass, stated or not.
+    for kg in (None, 0, 100):
+        lines = [*BOTH[:3], element(1, 100, 1, kg=kg),
+                 element(2, 400, 1, kg=kg)]
+        check_in_order(check, board_of(lines, 1), "share: 3 µg", "share: 1 µg")
+        check(("P, its passengers as 100 kg each × distance, is 200"
+               in board_of(lines, 1)) == (kg != 100), "not weighed", kg)
+    check_in_order(
+        check, board_of([*BOTH[:3], element(1, 100, 4, 3, 77)], 1),
+        "category 1: P, its passengers as what they weigh × distance, is "
+        "element 2 (line 4): 4 heads × 77 kg × 3 m = 924 operation",
+        "passenger class 100, 4 heads of 77 kg each over 3 m activity: 4 heads "
+        "× class 100 × 3 m = 1_200")
+    # Without freight P is not wanted.
+    board = board_of([category("passengers"), entry("all", 9),
+                      element(1, 100, 1, kg=50), element(2, 400, 1, kg=80)], 1)
+    check_in_order(check, board, "there is no freight: all of A goes to the "
+                   "passengers, whatever they weigh A × activity / C = 9 × "
+                   "100 / 500")
+    check(" P" not in board, "no P", board)
+
+
+def many_weighed(check):
+    """The first passengers of P, and how many more."""
+    for count, rest in ((12, ""), (13, "and 1 more element: 13 "),
+                        (15, "and 3 more elements: 42 ")):
+        lines = BOTH[:3] + [element(2, 100, 1, kg=kg)
+                            for kg in range(1, count + 1)]
+        check_in_order(
+            check, board_of(lines, 1),
+            "is the sum of element 2 (line 4): 1 head × 1 kg × 1 m = 1 element "
+            "3 (line 5): 1 head × 2 kg × 1 m = 2",
+            "element 13 (line 15): 1 head × 12 kg × 1 m = 12 %s= %d operation"
+            % (rest, count * (count + 1) // 2))
+
+
+def both_sorts(check):
+    """A chain in categories of both sorts: what P means is said where it
+    changes."""
+    lines = [category("both")] * 5
+    for number, kg in enumerate((None, 60, 70, None, None), 1):
+        lines += [line.replace("category 1", "category %d" % number)
+                  for line in (element(1, "ambient", 100),
+                               element(2, 100, 1, 2, kg))]
+    check_in_order(
+        check, board_of(lines, 1),
+        "category 1: P, its passengers as 100 kg each × distance, is 200",
+        "category 2: P, its passengers as what they weigh × distance, is "
+        "element 4 (line 9): 1 head × 60 kg × 2 m = 120",
+        "category 3: P is element 6 (line 11): 1 head × 70 kg × 2 m = 140",
+        "category 4: P, its passengers as 100 kg each × distance, is 200",
+        "category 5: P is 200")
 
 
 def formulas(check):
@@ -377,7 +459,9 @@ def wrong_words(check):
             (word(ENTRIES, 64, "struck"), "entry 64, struck", 1, 0),
             (word(ELEMENTS, 2, "activity"), "element 2, activity", 301, 300),
             (word(ELEMENTS, 2, "operation"), "element 2, operation", 12, 11),
-            (LENGTH - 1, "element 256, provision", 1, 0)):
+            (word(ELEMENTS, 256, "provision"), "element 256, provision", 1, 0),
+            (word(ELEMENTS, 1, "kg_per_head"), "element 1, kg per head", 1, 0),
+            (LENGTH - 1, "element 256, kg per head", 1, 0)):
         tells_difference(
             check, "after `load` replay shows %d in the book's %s, and %d is "
             "reckoned here" % (wrong, what, right), board_of, CHILLED, 1,
@@ -406,6 +490,16 @@ def wrong_sums(check):
         tells_difference(check, "category 1, %s: the program says %d, reckoned "
                          "here it is %d" % (what, told, reckoned), changed,
                          BOTH, (place, 1))
+    for place, told, reckoned in (
+            (word(ELEMENTS, 3, "amount"), 100, 150),
+            (word(ELEMENTS, 3, "distance"), 100, 150)):
+        tells_difference(check, "category 1, P: the program says %d, reckoned "
+                         "here it is %d" % (told, reckoned), changed, LIGHT,
+                         (place, 1))
+    # Another mass is another P, and then another share.
+    tells_difference(check, "element 1 (line 3), operation share: the program "
+                     "says 5, reckoned here it is 4", changed, LIGHT,
+                     (word(ELEMENTS, 3, "kg_per_head"), 1))
     for letter in "FCP":
         with mock.patch("command.explaining.Sums", lambda *book: mock.Mock(
                 wraps=Sums(*book), **{"F": 100, "P": 200, "C": 500,
@@ -538,6 +632,9 @@ def many_texts(check):
 
 def run(check):
     both_kinds(check)
+    weighed(check)
+    many_weighed(check)
+    both_sorts(check)
     formulas(check)
     parting_of_A(check)
     groups(check)

@@ -18,6 +18,7 @@ DOCUMENT = os.path.join(EXAMPLES, "document.txt")
 VOYAGE = os.path.join(EXAMPLES, "voyage.txt")
 CLASS = os.path.join(EXAMPLES, "class.txt")
 BOARD = os.path.join(EXAMPLES, "board.txt")
+FERRY = os.path.join(EXAMPLES, "ferry.txt")
 
 
 def stored(*names):

@@ -18,9 +18,10 @@ QUOTE = ("quote chain %s mass %s distance %s operation %s provision %s "
          "adjust %s")
 POSTED = POST % ("all", 1000, 10, 20)
 ENROLLED = ENROL % (7, "ambient", 100, 50)
+SEATS = ENROL % (7, "lowest", 40, 50)
 
 # Calls that are accepted, then one that is refused; its number, and what is
-# said of it.
+# said of it, with a line end where nothing is said behind it.
 CALLS = (
     # 2
     ((), "close 1", 2,
@@ -76,7 +77,36 @@ CALLS = (
     (("open passengers",), POST % ("chilled", 1, 1, 1), 6,
      "emissions of chilled freight in a category of passengers: category 1 "
      "is of kind 2, passengers, and takes entries of group 0"),
+    # 14, which comes before 7
+    (("open 3", ENROLLED, SEATS), SEATS + " kg 78", 14,
+     "weighed passengers in category 1, which has unweighed ones: element 2 of "
+     "category 1 has no `kg`: leave it out here, or weigh all passengers of "
+     "the category\n"),
+    (("open 2", SEATS), SEATS + " kg 100", 14,
+     "element 1 of category 1 has no `kg`: leave it out here, or weigh all "
+     "passengers of the category; a stated 100 is weighed too\n"),
+    (("open 2", SEATS), SEATS + " kg 301", 14,
+     "weighed passengers in category 1, which has unweighed ones"),
+    (("open 2", SEATS + " kg 78", SEATS + " kg 79"), SEATS, 14,
+     "unweighed passengers in category 1, which has weighed ones: element 1 of "
+     "category 1 has `kg 78`: say by `kg` what these weigh too, 1 to 300, or "
+     "leave it out for all passengers of the category\n"),
+    (("open 2", "open 2", (SEATS + " kg 78").replace("y 1", "y 2"), SEATS,
+      QUOTE % (1, 1, 1, 1, 1, 0)), SEATS.replace("y 1", "y 2"), 14,
+     "unweighed passengers in category 2, which has weighed ones: element 1 of "
+     "category 2 has `kg 78`"),
     # 7
+    (("open 2",), SEATS + " kg 301", 7,
+     "kg per head 301 is out of range: expected 0 to 300, in kg, and 0 is the "
+     "standard 100\n"),
+    (("open 2", SEATS + " kg 300"), SEATS + " kg 18446744073709551615", 7,
+     "kg per head 18_446_744_073_709_551_615 is out of range"),
+    (("open 3", SEATS + " kg 78"), ENROLLED + " kg 78", 7,
+     "for freight kg per head 78 is out of range: freight is not weighed by "
+     "the head, and its mass is its amount: leave `kg` out\n"),
+    (("open hub",), ENROL % (7, 2, 0, 5) + " kg 1", 7,
+     "amount 0 is out of range", "in a freight hub distance 5 is out of range",
+     "for freight kg per head 1 is out of range"),
     (("open 1",), POST % (0, 10 ** 12 + 1, 10 ** 10 + 1, 10 ** 10 + 2), 7,
      "quantity 1_000_000_000_001 is out of range: expected 0 to "
      "1_000_000_000_000, in thousandths of a unit",
@@ -150,7 +180,8 @@ CALLS = (
     (("open 1",) + (ENROL % (7, 0, 10 ** 9, 40_000_000),) * 2,
      ENROL % (7, 0, 10 ** 9, 40_000_000), 10,
      "more than 10^17 of activity: kg × m over all elements, a head counted as "
-     "100 kg and a hub without m, would add up to 120_000_000_000_000_000"),
+     "100 kg, weighed or not, and a hub without m, would add up to "
+     "120_000_000_000_000_000\n"),
     # What is at its limit is no reason for it.
     (("open 1",), POST % (0, 10 ** 12, 10 ** 6, 10 ** 6 + 1), 10,
      "more than 10^18 µg in provision: "),
@@ -163,6 +194,10 @@ CALLS = (
     (("open 3",) + (ENROL % (7, 0, 10 ** 9, 40_000_000),) * 2
      + (ENROL % (7, 1000, 10 ** 6, 40_000_000),) * 5,
      ENROL % (7, 1000, 1, 1), 10,
+     "would add up to 100_000_000_000_000_100"),
+    (("open 3",) + (ENROL % (7, 0, 10 ** 9, 40_000_000),) * 2
+     + (ENROL % (7, 1000, 10 ** 6, 40_000_000) + " kg 1",) * 5,
+     ENROL % (7, 1000, 1, 1) + " kg 300", 10,
      "would add up to 100_000_000_000_000_100"),
     (("open 1",) + (ENROL % (7, 0, 10 ** 9, 40_000_000),) * 2,
      QUOTE % (1, 10 ** 9, 40_000_000, 0, 0, 0), 10,
@@ -189,8 +224,8 @@ def each_call(check):
               "the number", call, first)
         check(len(lines) == len(told), "as many reasons", call, lines)
         for line, words in zip(lines, told):
-            check(line.startswith("    ") and words in line, "a reason", line,
-                  words)
+            check(line.startswith("    ") and words in line + "\n",
+                  "a reason", line, words)
     given = {(call.split()[0], number) for _, call, number, *_ in CALLS}
     possible = {(name, number) for name, numbers in book_cases.ANSWERS.items()
                 for number in numbers if number > 1}
@@ -201,6 +236,8 @@ def each_call(check):
 # Files.
 
 FREIGHT = (1, 7, 0, 0, 100, 50, 0, 0)
+HEADS = (1, 7, 100, 0, 40, 50, 0, 0)
+WEIGHED = (1, 7, 100, 78, 40, 50, 0, 0)
 
 # The records of a file, and the line that is told.
 FILES = (
@@ -223,6 +260,33 @@ FILES = (
     (((1, 0),), (), ((1, 7, 0, 0, 1, 1, 3, 2),),
      "line 2: element 1: operation and provision for an element of a category "
      "(refused 13)", "an element's share comes from its category's entries"),
+    (((1, 0),), (), ((1, 7, 0, 80, 1, 1, 0, 0),),
+     "line 2: element 1: adjust for an element of a category (refused 13)",
+     "only a quote has an air adjustment or intensities"),
+    (((2, 0),), (), ((1, 7, 50, 80, 1, 1, 0, 0),),
+     "line 2: element 1: adjust for an element of a category (refused 13)",
+     "only a quote has an air adjustment or intensities"),
+    # Of passengers it is what they weigh.
+    (((2, 0),), (), ((1, 7, 100, 80, 1, 1, 3, 0),),
+     "line 2: element 1: operation for an element of a category (refused 13)",
+     "only a quote has an air adjustment or intensities"),
+    (((1, 0),), (), (FREIGHT, WEIGHED),
+     "line 3: element 2: passengers in a freight category (refused 6)",
+     "category 1 (line 1) is of kind 1, freight"),
+    (((3, 0), (2, 0)), (), ((2, *WEIGHED[1:]), FREIGHT, HEADS, WEIGHED),
+     "line 6: element 4: weighed passengers in category 1, which has unweighed "
+     "ones (refused 14)",
+     "element 3 (line 5) of category 1 (line 1) has no `kg`: leave it out here, "
+     "or weigh all passengers of the category"),
+    (((2, 0),), (), (WEIGHED, WEIGHED, HEADS),
+     "line 4: element 3: unweighed passengers in category 1, which has weighed "
+     "ones (refused 14)",
+     "element 1 (line 2) of category 1 (line 1) has `kg 78`: say by `kg` what "
+     "these weigh too, 1 to 300, or leave it out for all passengers of the "
+     "category"),
+    (((2, 0),), (), (WEIGHED, (1, 7, 100, 301, 40, 50, 0, 0)),
+     "line 3: element 2: kg per head 301 is out of range (refused 7)",
+     "expected 0 to 300, in kg, and 0 is the standard 100"),
     ((), (), ((0, 7, 3, 0, 1, 1, 0, 0),),
      "line 1: element 1: code 3 for an element of category 0 (refused 13)",
      "an element of category 0 is a quote"),
@@ -319,13 +383,20 @@ def check_load(check, data, numbers):
 def differences(check):
     """A number of which nothing is found in the book is told."""
     session = playing.Session(CALCULATED)
-    for line in ("open 1", ENROLLED):
+    for line in ("open 3", ENROLLED, SEATS + " kg 78"):
         session.answer(playing.request_of(line))
-    for number in (1, 2, 3, 4, 9):
-        tells_difference(
-            check, "refuses with %d, and nothing of that number" % number,
-            lambda: list(refusals.of_call(number, session.ledger.words,
-                                          "close", (1,))))
+    for name, arguments, numbers in (
+        ("close", (1,), (1, 2, 3, 4, 9, 14)),
+        # Freight is looked past, and 79 kg is weighed as 78 kg is.
+        ("enrol", (1, 7, 0, 1, 1, 0), (7, 14)),
+        ("enrol", (1, 7, 0, 1, 1, 78), (14,)),
+        ("enrol", (1, 7, 100, 1, 1, 79), (7, 14)),
+    ):
+        for number in numbers:
+            tells_difference(
+                check, "refuses with %d, and nothing of that number" % number,
+                lambda: list(refusals.of_call(number, session.ledger.words,
+                                              name, arguments)))
 
 
 def run(check):

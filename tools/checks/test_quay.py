@@ -22,8 +22,8 @@ from calculation.sheet import sheet
 from checks import explain_checks, refusal_checks
 from checks.checking import Checks
 from checks.quay_runs import (
-    BOARD, CALCULATED, CLASS, DOCUMENT, EXAMPLES, ROOT, VOYAGE, calculated,
-    run, stored, tells_difference)
+    BOARD, CALCULATED, CLASS, DOCUMENT, EXAMPLES, FERRY, ROOT, VOYAGE,
+    calculated, run, stored, tells_difference)
 from command import (
     amounts, explaining, main, playing, programs, refusals, sheets)
 from command.fields import Wrong
@@ -359,11 +359,75 @@ def stored_explanations():
 
 
 def board():
-    """The book for the blackboard has what document 01 reckons by hand."""
+    """The book for the blackboard has what document 01 reckons by hand, and
+    its first closing with heads of 50 kg."""
     *lines, last = run("sheet", BOARD)[1].splitlines()[1:]
     check([int(line.split()[3]) for line in lines]
-          == [3, 1, 5, 2, 11, 4, 3, 3, 1], "reckoned by hand", lines)
-    check(last == "all 9 0 33 0 33", "their sum", last)
+          == [3, 1, 5, 2, 11, 4, 3, 3, 1, 5, 1, 3], "reckoned by hand", lines)
+    check(last == "all 12 0 42 0 42", "their sum", last)
+
+
+FERRY_TABLE = """\
+chain  name                     elements  waiting  operation t  provision t\
+  total t
+   11  Island Grocers, Monday          1        0       0.4095      0.07938\
+  0.48888
+   12  Brickworks, Monday              1        0       0.273       0.05292\
+  0.32592
+   13  benches, Monday                 1        0       0.455       0.0882 \
+  0.5432
+   14  saloon, Monday                  1        0       0.2275      0.0441 \
+  0.2716
+   21  Island Grocers, Tuesday         1        0       0.468       0.09072\
+  0.55872
+   22  Brickworks, Tuesday             1        0       0.312       0.06048\
+  0.37248
+   23  benches, Tuesday                1        0       0.39        0.0756 \
+  0.4656
+   24  saloon, Tuesday                 1        0       0.195       0.0378 \
+  0.2328
+  all                                  8        0       2.73        0.5292 \
+  3.2592
+"""
+
+
+def ferry():
+    """The weighed ferry has what is reckoned by hand, and does what it
+    says."""
+    check(run("sheet", "--tonnes", FERRY) == (0, FERRY_TABLE, ""), "a ferry",
+          run("sheet", "--tonnes", FERRY))
+    text = stored("examples", "ferry.txt").replace("_000 kg 79", "_000")
+    status, output, told = run("sheet", "-", text=text.encode())
+    check((status, output) == (3, "") and told == """\
+line 36: element 8: unweighed passengers in category 2, which has weighed ones \
+(refused 14)
+    element category 2 chain 24 code 200 amount 40 distance 18_000
+    element 7 (line 35) of category 2 (line 29) has `kg 74`: say by `kg` what \
+these weigh too, 1 to 300, or leave it out for all passengers of the category
+no sheet is printed
+""", "one of them", told)
+    lines = run("sheet", "-", text=text.replace("_000 kg 74", "_000").encode())[
+        1].splitlines()[1:-1]
+    check(len(lines) == 8 and [line.split()[1:] for line in lines[:4]]
+          == [line.split()[1:] for line in lines[4:]], "as on Monday", lines)
+    for kg, told in (
+        (0, "unweighed passengers in category 2, which has weighed ones "
+            "(refused 14)"),
+        (301, "kg per head 301 is out of range (refused 7)"),
+    ):
+        found = run("sheet", "-", text=stored("examples", "ferry.txt").replace(
+            "_000 kg 79", "_000 kg %d" % kg).encode())
+        check(found[:2] == (3, "") and found[2].startswith(
+            "line 36: element 8: %s\n" % told), "refused", found)
+    found = run("sheet", "-", text=stored("examples", "ferry.txt").replace(
+        "8_000 distance 18_000\n", "8_000 distance 18_000 kg 79\n").encode())
+    check(found == (1, "", """\
+line 34: `kg` for freight, which is not weighed by the head: its mass is its \
+amount
+    element category 2 chain 22 code ambient amount 8_000 distance 18_000 kg 79
+    expected no `kg`: it is for passengers alone, whose code is 100 to 1000
+no sheet is printed
+"""), "weighed freight", found)
 
 
 # quay play
@@ -374,7 +438,7 @@ def class_list():
     check(output == stored("examples", "class-answers.txt"),
           "its stored answers")
     numbers = set(re.findall("^refused ([0-9]+):", output, re.M))
-    check(numbers == set("2345679"), "its refusals", numbers)
+    check(numbers == {*"2345679", "14"}, "its refusals", numbers)
 
 
 def answers(*lines):
@@ -391,6 +455,7 @@ def answered(*lines_and_answer):
 
 POST = "post category 1 group 1 quantity 1_000 operation 3 provision 2"
 ENROL = "enrol category 1 chain 7 code 1 amount 10 distance 20"
+SEATS = ENROL.replace("code 1", "code lowest")
 QUOTE = ("quote adjust chain 7 mass 1_000 distance 5_000 operation 6 "
          "provision 1")
 
@@ -414,6 +479,19 @@ def accepted_calls():
     answered("open 2", ENROL.replace("code 1", "code 250"), "element 1: "
              "category 1, chain 7, passenger class 250, 10 heads over 20 m; "
              "it waits for category 1 to be closed")
+    for line, told in ((" kg 78", " of 78 kg each"), (" kg 0", ""),
+                       (" kg 100", " of 100 kg each")):
+        answered("open 2", ENROL.replace("code 1", "code 250") + line,
+                 "element 1: category 1, chain 7, passenger class 250, 10 "
+                 "heads%s over 20 m; it waits for category 1 to be closed"
+                 % told)
+    answered("open 3", ENROL + " kg 0", "element 1: category 1, chain 7, "
+             "chilled freight, 10 kg over 20 m; it waits for category 1 to be "
+             "closed")
+    answered("open 3", "enrol kg 300 category 1 chain 7 code lowest amount 1 "
+             "distance 20", "show", "category 1: freight and passengers, open"
+             "\nelement 1: category 1, chain 7, passenger class 100, 1 head of "
+             "300 kg over 20 m; it waits for category 1 to be closed")
     answered("name 7 Mills", QUOTE, "element 1: quoted, chain 7 (Mills), "
              "1_000 kg over 5_000 m; operation 600_000 µg (0.0000006 t), "
              "provision 100_000 µg (0.0000001 t)\n    its emissions are by "
@@ -461,6 +539,16 @@ def looking():
              "intensity 1 lowest", "category 1, passengers, per passenger-km "
              "of the lowest class:\n    operation 15 mg CO2e (0.015 g)\n"
              "    provision 10 mg CO2e (0.01 g)")
+    # 10 heads of 50 kg beside 500 kg: half of it each.
+    lines = ("open 3", ENROL.replace("code 1", "code 100") + " kg 50",
+             ENROL.replace("amount 10", "amount 500"),
+             POST.replace("group 1", "group all"), "close 1")
+    answered(*lines, "intensity 1 lowest", "category 1, passengers, per "
+             "passenger-km of the lowest class:\n    operation 8 mg CO2e (0.008 "
+             "g)\n    provision 5 mg CO2e (0.005 g)")
+    answered(*lines, "intensity 1 ambient", "category 1, ambient freight, per "
+             "tonne-km:\n    operation 150 mg CO2e (0.15 g)\n    provision 100 "
+             "mg CO2e (0.1 g)")
 
 
 def whole_sheets():
@@ -494,10 +582,11 @@ def saves():
         path = os.path.join(folder, "a b.txt")
         session = playing.Session(CALCULATED)
         for line, told in (
-            (" open 1 # freight", None), ("name 7 Mills", None),
-            ("close 1", None), ("show", None), ("statement 7", None),
+            (" open 3 # both", None), ("name 7 Mills", None),
+            (SEATS + " kg 78", None), (SEATS, None),
+            ("close 2", None), ("show", None), ("statement 7", None),
             ("save '%s' # here" % path,
-             "saved 3 lines: `quay play` plays it again, from this folder"),
+             "saved 4 lines: `quay play` plays it again, from this folder"),
             ("save " + path, "not saved: %s is there already, and no file is "
              "written over; choose another name" % path),
             ("save %s/none/x" % folder, "not saved as %s/none/x: No such file "
@@ -507,8 +596,8 @@ def saves():
             found = session.answer(playing.request_of(line))
             check(told is None or found == [told], "saved", line, found)
         with open(path, encoding="utf-8") as file:
-            check(file.read() == "open 1 # freight\nname 7 Mills\n"
-                  "statement 7\n", "what is saved")
+            check(file.read() == "open 3 # both\nname 7 Mills\n%s kg 78\n"
+                  "statement 7\n" % SEATS, "what is saved")
         check(run("play", path)[0] == 0, "it is played")
         again = ("save " + path).encode()
         check(run("play", text=again)[0] == 2, "not saved again")
@@ -626,6 +715,18 @@ def bad_lines():
     bad_line("post category 1", "missing: group, quantity, operation and")
     bad_line("quote chain 7 mass 5 kg", "a number stands without its unit; "
              "`mass` is in kg")
+    bad_line(QUOTE + " kg 78", "a quote has no `kg`: only passengers are "
+             "weighed by the head", "expected quote with chain, mass")
+    bad_line(SEATS + " kg", "no number after `kg`: a number stands without its "
+             "unit, and `kg` is a word of its own; `distance` is in m, and 0 in "
+             "a hub", "`kg` is what each passenger weighs, 1 to 300; left out "
+             "or 0 it is the standard 100; a call is `enrol category 1")
+    bad_line(SEATS + " kg 78.5", "there are no decimals")
+    bad_line(SEATS + " 78", "`78` has no word before it", "expected enrol with "
+             "category, chain, code, amount and distance; it may have kg; a "
+             "call is")
+    bad_line(SEATS + " kg 18446744073709551616", "does not fit 64 bits")
+    bad_line(SEATS + " adjust", "`adjust` is no word of `enrol`")
     bad_line("statement 18446744073709551616", "does not fit 64 bits")
     bad_line("intensity 1", "missing: code")
     bad_line("fresh 1", "`1` has no word before it", "expected fresh")
@@ -712,7 +813,10 @@ close: closes a category: its elements get their shares
     "enrol": """\
 enrol: enrols freight or passengers of a chain in a category
     enrol category 1 chain 7 code ambient amount 1_000 distance 300_000
-    expected enrol with category, chain, code, amount and distance
+    the passengers of a category are all weighed, each element with its `kg`, \
+or none is
+    expected enrol with category, chain, code, amount and distance; it may \
+have kg
     category is a number, from 1 on in their order
     chain is a number from 1 to 10,000, also where `name` gives it a name
     code is for passengers their class in hundredths of the lowest, 100 to 1000
@@ -720,6 +824,8 @@ enrol: enrols freight or passengers of a chain in a category
 (100)
     amount is in kg, or heads for passengers
     distance is in m, and 0 in a hub
+    kg is what each passenger weighs, 1 to 300; left out or 0 it is the \
+standard 100
 """,
     "quote": """\
 quote: quotes a leg of another carrier, in no category
@@ -1000,12 +1106,12 @@ def differences_of_answers():
         *((stated, b"\n%s\n" % wrong, "replay answers `%s` to `statement 7`, "
            "and `0 1 1 0 0 0` is reckoned here" % wrong.decode()) for wrong in (
                b"0 1 0 0 0 0", b"0 1 1 0 0", b"0 1 1 0 0 0 0", b"0 1 1 0 1 1",
-               b"3 0 0 0 0 0", b"14 1 1 0 0 0")),
+               b"3 0 0 0 0 0", b"23 1 1 0 0 0")),
         (b"\n0 1\n", b"\n0 2\n", "replay answers the same calls in another"),
         (stated, b"\n", "replay answers the same calls in another"),
         (stated, b"\n0 1 1 0 0 x\n", "a program prints `0 1 1 0 0 x`"),
         (stated + b"14083 1 0 1 1 0 ", stated + b"14083 1 0 1 ",
-         "replay shows 2402 words"),
+         "replay shows 2658 words"),
         (stated + b"14083 1 0 1 1 0 ", stated + b"14083 1 0 1 2 0 ",
          "after `statement 7` replay shows 2 in the book's category 1, kind, "
          "and 1 is reckoned here"),
@@ -1035,7 +1141,10 @@ def differences_of_calls():
         (("open 1",), b"\n0 1\n", b"\n0 9\n", "`0 9` to `open 1`, and `0 1`"),
         (("open 1",), b"\n0 1\n", b"\n0\n", "`0` to `open 1`, and `0 1`"),
         (("open 1",), b"\n0 1\n", b"\n\n", "`` to `open 1`, and `0 1`"),
-        (("open 9",), b"\n3 0\n", b"\n14 0\n", "`14 0` to `open 9`, and `3 0`"),
+        (("open 9",), b"\n3 0\n", b"\n23 0\n", "`23 0` to `open 9`, and `3 0`"),
+        # What a program without weighed passengers answers.
+        (("open 2", SEATS, SEATS + " kg 78"), b"\n14 0\n", b"\n0 2\n",
+         "`0 2` to `enrol 1 7 100 10 20 78`, and `14 0` is reckoned here"),
         (("open 1", POST, ENROL, "close 1", "intensity 1 0"),
          b"\n0 15000 10000\n", b"\n0 15000\n", "`0 15000` to `intensity 1 0`"),
     ):
@@ -1134,6 +1243,8 @@ def help_texts():
          "comma-separated, for a spreadsheet"),
         ("play", "Plays calls in words, one a line, from a list or typed at a "
          "prompt", "a refused call changes nothing and can be tried again",
+         "enrol category 2 chain 9 code lowest amount 40 distance 300_000 kg "
+         "78",
          "a list of calls; without it they are typed"),
         ("explain", "Shows how a chain's shares came about, element by element",
          "Each result is compared with that of the proved program",
@@ -1190,6 +1301,7 @@ refused_texts()
 explanations()
 stored_explanations()
 board()
+ferry()
 class_list()
 accepted_calls()
 looking()
