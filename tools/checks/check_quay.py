@@ -22,7 +22,7 @@ sys.path.insert(0, os.path.dirname(os.path.dirname(os.path.abspath(__file__))))
 from cases.random_cases import by_bits, one_of
 from cases.random_files import random_parts
 from checks.quay_runs import (
-    CLASS, DOCUMENT, ROOT, VOYAGE, calculated, run, stored, text_of)
+    CLASS, DOCUMENT, FERRY, ROOT, VOYAGE, calculated, run, stored, text_of)
 from command.main import BAD_TEXT, CANNOT, DIFFERENT, DONE, REFUSED
 from command.programs import PROVED
 
@@ -65,16 +65,19 @@ def random_line(rng):
         "post category %d group %d quantity %d operation %d provision %d" % (
             category, rng.randrange(3), by_bits(rng, 41), by_bits(rng, 34),
             by_bits(rng, 34)),
-        "enrol category %d chain %d code %d amount %d distance %d" % (
+        "enrol category %d chain %d code %d amount %d distance %d%s" % (
             category, chain, one_of(rng, (0, 1, 2, 100, 250)),
-            by_bits(rng, 20), by_bits(rng, 26)),
+            by_bits(rng, 20), by_bits(rng, 26),
+            one_of(rng, ("", " kg 0", " kg 78", " kg %d" % (
+                1 + rng.randrange(301))))),
         "quote chain %d mass %d distance %d operation %d provision %d" % (
             chain, by_bits(rng, 30), by_bits(rng, 26), by_bits(rng, 30),
             by_bits(rng, 30)),
         "strike %d" % (1 + rng.randrange(6)), "close %d" % category,
         "statement %d" % chain,
         "intensity %d %d" % (category, one_of(rng, (0, 1, 2, 100))),
-        "show", "sheet", "load " + one_of(rng, (DOCUMENT, VOYAGE, "# none")),
+        "show", "sheet",
+        "load " + one_of(rng, (DOCUMENT, VOYAGE, FERRY, "# none")),
     )[:10 + (rng.randrange(20) == 0)])
 
 
@@ -88,7 +91,7 @@ def lists(rng):
 def runs(seed):
     """The words of a command and its standard input."""
     rng = random.Random(seed)
-    for path in (DOCUMENT, VOYAGE):
+    for path in (DOCUMENT, VOYAGE, FERRY):
         for words in SHEETS:
             yield (*words, path), ""
         for chain in range(40):

@@ -55,7 +55,7 @@ def stored_files():
 
 def examples():
     found = [("document 01's example", EXAMPLE)]
-    for name in ("document.txt", "voyage.txt"):
+    for name in ("document.txt", "voyage.txt", "ferry.txt"):
         data, problems = pack.packed(pack.read(os.path.join(EXAMPLES, name)))
         if problems:
             raise SystemExit("examples/%s is no text of a book" % name)

@@ -623,10 +623,13 @@ def random_texts(rng, count):
 
 
 def many_texts(check):
-    explained = sum(check_chains(check, text)
-                    for text in random_texts(random.Random(SEED), TEXTS))
+    texts = list(random_texts(random.Random(SEED), TEXTS))
+    explained = sum(check_chains(check, text) for text in texts)
     check(explained > TEXTS, "chains of random texts", explained)
-    for name in ("document.txt", "voyage.txt"):
+    weighed = sum(any("kg" in line and "kg 0 " not in line
+                      for line in text.lines) for text in texts)
+    check(weighed > TEXTS // 5, "weighed passengers in random texts", weighed)
+    for name in ("document.txt", "voyage.txt", "board.txt", "ferry.txt"):
         check_chains(check, Text(stored("examples", name)))
 
 
