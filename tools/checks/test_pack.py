@@ -529,6 +529,8 @@ def examples():
     check(stored("stdin") == data, "the program's stored input")
     check(stored("stdout") == sheet(data), "its stored output")
     voyage(packed_example("voyage.txt"))
+    ferry(packed_example("ferry.txt"))
+    packed_example("board.txt")
 
 
 def stored(name):
@@ -560,6 +562,29 @@ def refusals():
         ("amount 1_000", "amount 1_000 adjust", b"refused 13 3 1\n"),
     ):
         check(old in text, "the example has", old)
+        data, problems = pack.packed(text.replace(old, new))
+        check(not problems and sheet(data) == printed, "refused", new, printed)
+
+
+def ferry(data):
+    """Its passengers of Tuesday are weighed, and what is printed of edits."""
+    check([(code, adjust) for _, _, code, adjust, *_
+           in table_records(data, 3)]
+          == [(0, 0), (0, 0), (100, 0), (200, 0), (0, 0), (0, 0), (100, 74),
+              (200, 79)], "a weighed ferry", data)
+    text = pack.read(os.path.join(EXAMPLES, "ferry.txt"))
+    for old, new, printed in (
+        ("_000 kg 79", "_000", b"refused 14 3 8\n"),
+        ("_000 kg 79", "_000 kg 0", b"refused 14 3 8\n"),
+        ("_000 kg 79", "_000 kg 301", b"refused 7 3 8\n"),
+        ("code 200 amount 40 distance 18_000  ",
+         "code 200 amount 40 distance 18_000 kg 100", b"refused 14 3 4\n"),
+        ("chain 22 code ambient", "chain 22 adjust 80 code ambient",
+         b"refused 13 3 6\n"),
+        ("chain 24 code 200", "chain 24 code 200 operation 1",
+         b"refused 13 3 8\n"),
+    ):
+        check(text.count(old) == 1, "the ferry has", old)
         data, problems = pack.packed(text.replace(old, new))
         check(not problems and sheet(data) == printed, "refused", new, printed)
 
