@@ -19,6 +19,7 @@ QUOTE = ("quote chain %s mass %s distance %s operation %s provision %s "
 POSTED = POST % ("all", 1000, 10, 20)
 ENROLLED = ENROL % (7, "ambient", 100, 50)
 SEATS = ENROL % (7, "lowest", 40, 50)
+OTHER_SEATS = SEATS.replace("category 1", "category 2")
 
 # Calls that are accepted, then one that is refused; its number, and what is
 # said of it, with a line end where nothing is said behind it.
@@ -86,15 +87,19 @@ CALLS = (
      "element 1 of category 1 has no `kg`: leave it out here, or weigh all "
      "passengers of the category; a stated 100 is weighed too\n"),
     (("open 2", SEATS), SEATS + " kg 301", 14,
-     "weighed passengers in category 1, which has unweighed ones"),
+     "element 1 of category 1 has no `kg`: leave it out here, or weigh all "
+     "passengers of the category\n"),
     (("open 2", SEATS + " kg 78", SEATS + " kg 79"), SEATS, 14,
      "unweighed passengers in category 1, which has weighed ones: element 1 of "
      "category 1 has `kg 78`: say by `kg` what these weigh too, 1 to 300, or "
      "leave it out for all passengers of the category\n"),
-    (("open 2", "open 2", (SEATS + " kg 78").replace("y 1", "y 2"), SEATS,
-      QUOTE % (1, 1, 1, 1, 1, 0)), SEATS.replace("y 1", "y 2"), 14,
-     "unweighed passengers in category 2, which has weighed ones: element 1 of "
-     "category 2 has `kg 78`"),
+    # Other categories are looked past.
+    (("open 2", "open 2", SEATS + " kg 79", OTHER_SEATS + " kg 78"),
+     OTHER_SEATS, 14, "unweighed passengers in category 2, which has weighed "
+     "ones: element 2 of category 2 has `kg 78`"),
+    (("open 2", "open 2", OTHER_SEATS, SEATS), SEATS + " kg 78", 14,
+     "weighed passengers in category 1, which has unweighed ones: element 2 of "
+     "category 1 has no `kg`"),
     # 7
     (("open 2",), SEATS + " kg 301", 7,
      "kg per head 301 is out of range: expected 0 to 300, in kg, and 0 is the "
