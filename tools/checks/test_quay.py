@@ -1278,6 +1278,10 @@ def documents():
                           (("open freight", "intensity 1 ambient"), 5)):
         check(answers(*lines)[-1][0].startswith("refused %d: " % number),
               "README's calls", lines)
+    lines = re.findall("^    ((?:%s|name) .*)" % "|".join(pack.RECORDS),
+                       stored("README.md"), re.M)
+    check(len(lines) > 5 and not pack.Text("\n".join(lines)).problems
+          and any(" kg " in line for line in lines), "README's lines", lines)
     text = stored("examples", "document.txt").replace("chain 4 c", "chian 4 c")
     for page, output in (
         ("README.md", DOCUMENT_TABLE), ("README.md", REFUSED_TOLD),
