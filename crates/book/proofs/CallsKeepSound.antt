@@ -1,5 +1,5 @@
 -- An accepted call leaves a sound book sound. Assumes nothing.
-use mathlib.Core.Bool.{true, cond, _&&_, not}
+use mathlib.Core.Bool.{true, false, cond, _&&_, not}
 use mathlib.Core.List.{List}
 use mathlib.Core.Logic.{⊎-elim}
 use mathlib.Core.Path.{_≡_, sym, _∙_, ap, refl}
@@ -8,8 +8,9 @@ use native.Mathlib.Nat.{eq-zero-or-pos, add-zero}
 use native.Mathlib.Omega.{arith}
 use lib.Dec.{leb, eqb}
 use borrow.Author.Tests.{le-leb, ne-eqb}
-use Rattle.book_words.specs.Book.{categories, categoryAt, categoryOf, entries, entryAt, elements, elementAt, mostCategories, mostEntries, mostElements}
+use Rattle.book_words.specs.Book.{categories, categoryAt, categoryOf, entries, entryAt, elements, elementAt, mostCategories, mostEntries, mostElements, withShares}
 use Rattle.book_words.specs.Measures.{between, isGroup, unsuitedGroup}
+use Rattle.book_words.specs.Mixture.{mixes, mixed}
 use Rattle.book_words.specs.Soundness.{mostAmount, entryFine, entrySuits, elementFine, elementSuits, categoryFine}
 use Rattle.book_words.specs.declared.totals.Side.{Side}
 use Rattle.book_words.specs.Totals.{unstruck, allUnstruck, unstruckOf, shareOf, sharesOf, sumsOf, withEntry, withElement, withinLimits}
@@ -24,6 +25,7 @@ use Rattle.book_words.proofs.SameRecords.{same-or-not, entries-kept, elements-k
 use Rattle.book_words.proofs.Ranges.{between-low, between-high}
 use Rattle.book_words.proofs.RecordRules.{entry-inside, entry-numbered, element-quoted, element-inside, element-numbered}
 use Rattle.book_words.proofs.RecordsAfterWrite.{struckEntry, EntryStruck, CategoryAdded, EntryAdded, ElementAdded}
+use Rattle.book_words.proofs.Passengers.{mixes-kept, mixed-kept}
 use Rattle.book_words.proofs.SoundRecords.{Balanced, SoundFacts}
 use Rattle.book.proofs.SumsAfterCall.{entries-more, elements-more, entry-sums, element-sums}
 
@@ -143,6 +145,12 @@ module _ (ws ws′ : List ℕ) where
   elements-fine w carried e same p h =
       ap (elementFine ws′) (same p) ∙ element-carried ws ws′ carried (elementAt ws p) (w .each-element p (omega arith))
 
+  -- nor do they mix
+  elements-unmixed : SoundFacts ws → elements ws′ ≡ elements ws → ((p : ℕ) → elementAt ws′ p ≡ elementAt ws p) → (p : ℕ) → p < elements ws′ → mixed ws′ p ≡ false
+  elements-unmixed w e same p h =
+      let i : p < elements ws = omega arith in
+      mixed-kept ws ws′ (elements ws) (λ q j. ap (λ (r : Element). withShares r 0 0) (same q)) p i ∙ w .unmixed p i
+
   -- a category appended
   pub open-keeps : (r : Category) → SoundFacts ws → CategoryAdded ws ws′ r → categories ws < mostCategories → categoryFine r ≡ true → r .closed ≡ 0
       → SoundFacts ws′
@@ -160,6 +168,7 @@ module _ (ws ws′ : List ℕ) where
         each-entry = λ p h.
             ap (entryFine ws′) (a .entry-kept p) ∙ entry-carried ws ws′ carried (entryAt ws p) (w .each-entry p (omega (arith, a .same-entries)));
         each-element = elements-fine w carried (a .same-elements) (a .element-kept);
+        unmixed = elements-unmixed w (a .same-elements) (a .element-kept);
         limited = λ s. omega (arith, entry-sums .0 s, element-sums .0 0 s, w .limited s);
         active = omega (arith, element-sums .1, w .active);
         balanced = λ p h closed s.
@@ -189,6 +198,7 @@ module _ (ws ws′ : List ℕ) where
             (λ i. ap (entryFine ws′) (a .entry-kept p (λ e. omega arith)) ∙ entry-carried ws ws′ carried (entryAt ws p) (w .each-entry p i))
             (λ e. ap (λ (q : ℕ). entryFine ws′ (entryAt ws′ q)) e ∙ ap (entryFine ws′) (a .entry-new) ∙ entry-carried ws ws′ carried r fine);
         each-element = elements-fine w carried (a .same-elements) (a .element-kept);
+        unmixed = elements-unmixed w (a .same-elements) (a .element-kept);
         limited = limits-limited ws′ sums;
         active = within-parts (sumsOf ws′) sums .2;
         balanced = same-balance w (a .same-categories) (a .category-kept)
@@ -216,6 +226,7 @@ module _ (ws ws′ : List ℕ) where
             ap (entryFine ws′) (a .entry-kept p ne) ∙ entry-carried ws ws′ carried (entryAt ws p) (w .each-entry p (omega (arith, a .same-entries))))
             (same-or-not p place);
         each-element = elements-fine w carried (a .same-elements) (a .element-kept);
+        unmixed = elements-unmixed w (a .same-elements) (a .element-kept);
         limited = λ s. omega (arith, struck-less place a s, element-sums .0 0 s, w .limited s);
         active = omega (arith, element-sums .1, w .active);
         balanced = same-balance w (a .same-categories) (a .category-kept)
@@ -225,10 +236,11 @@ module _ (ws ws′ : List ℕ) where
 
   -- an element appended
   pub element-keeps : (r : Element) → SoundFacts ws → ElementAdded ws ws′ r → elements ws < mostElements → elementFine ws r ≡ true
+      → mixes ws (elements ws) (r .category) (r .code) (r .«kg_per_head») ≡ false
       → withinLimits (withElement (sumsOf ws) r) ≡ true
       → ((p : ℕ) (s : Side) → cond (eqb (r .category) (p + 1)) (shareOf s r) 0 ≡ 0)
       → SoundFacts ws′
-  element-keeps r w a room fine within none =
+  element-keeps r w a room fine alone within none =
       let sums = ap withinLimits (element-sums ws ws′ r a (w .counts .entries-most)) ∙ within in
       let carried = carried-over w (a .same-categories) (a .category-kept) in
       let entry-sums = entries-kept ws ws′ (a .same-entries) (λ p h. a .entry-kept p (omega (arith, w .counts .entries-most))) in
@@ -244,6 +256,16 @@ module _ (ws ws′ : List ℕ) where
             last (elements ws) p (omega (arith, a .one-more))
             (λ i. ap (elementFine ws′) (a .element-kept p (λ e. omega arith)) ∙ element-carried ws ws′ carried (elementAt ws p) (w .each-element p i))
             (λ e. ap (λ (q : ℕ). elementFine ws′ (elementAt ws′ q)) e ∙ ap (elementFine ws′) (a .element-new) ∙ element-carried ws ws′ carried r fine);
+        unmixed = λ p h.
+            let same : (q : ℕ) → q < elements ws → withShares (elementAt ws′ q) 0 0 ≡ withShares (elementAt ws q) 0 0 =
+            λ q j. ap (λ (x : Element). withShares x 0 0) (a .element-kept q (λ e. omega arith)) in
+            last (elements ws) p (omega (arith, a .one-more))
+            (λ i. mixed-kept ws ws′ (elements ws) same p i ∙ w .unmixed p i)
+            (λ e.
+            ap (mixed ws′) e
+            ∙ ap (λ (x : Element). mixes ws′ (elements ws) (x .category) (x .code) (x .«kg_per_head»)) (a .element-new)
+            ∙ mixes-kept ws ws′ (elements ws) same (elements ws) (omega arith) (r .category) (r .code) (r .«kg_per_head»)
+            ∙ alone);
         limited = limits-limited ws′ sums;
         active = within-parts (sumsOf ws′) sums .2;
         balanced = same-balance w (a .same-categories) (a .category-kept)

@@ -7,7 +7,7 @@ use native.Mathlib.Omega.{arith}
 use borrow.Author.Tests.{not-true, not-false}
 use Rattle.apportion.specs.Grounds.{accepted, Ground, firstOf}
 use Rattle.apportion.specs.Inner.Grounds.{groundsBefore}
-use Rattle.book_words.specs.Measures.{massActivity}
+use Rattle.book_words.specs.Measures.{standardActivity}
 use Rattle.book_words.specs.Totals.{sumsOf, withEntry, withElement, withinLimits, passesLimits}
 use Rattle.book_words.specs.Inner.Steps.{capped, capSums}
 use Rattle.book_words.specs.declared.totals.Sums.{Sums}
@@ -51,10 +51,10 @@ module _ (sums : Sums) where
       )
 
   pub quote-capped : (q : QuoteArguments) → Alike (withElement sums) (capShares (quotedElement q)) (quotedElement q)
-  unfolding massActivity
+  unfolding standardActivity
   quote-capped q =
       let r = quotedElement q in
-      let activity = sums .activity + massActivity r in (
+      let activity = sums .activity + standardActivity r in (
         cap-passes sums (r .operation) (r .provision) activity,
         λ e. let exact = cap-exact sums (r .operation) (r .provision) activity e in rw (exact .0, exact .1),
       )

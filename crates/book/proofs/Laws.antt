@@ -28,7 +28,7 @@ use Rattle.book.specs.declared.arguments.EnrolArguments.{EnrolArguments}
 use Rattle.book.specs.declared.arguments.PostArguments.{PostArguments}
 use Rattle.book.specs.declared.arguments.QuoteArguments.{QuoteArguments}
 use Rattle.book.specs.Calls.{cleared, freshRefusal, freshBook, openRefusal, openBook, postRefusal, postBook, postedEntry}
-use Rattle.book.specs.Calls.{quoteInRange, strikeRefusal, strikeBook, enrolRefusal, enrolBook, enrolledElement, quoteRefusal, quoteBook, quotedElement}
+use Rattle.book.specs.Calls.{quoteInRange, strikeRefusal, strikeBook, enrolInRange, enrolRefusal, enrolBook, enrolledElement, quoteRefusal, quoteBook, quotedElement}
 use Rattle.book.specs.Statements.{ofChain, waits, elementsOver, waitingOver, sharesOver, zerosBeside, statementOf, statementRefusal, statementReply}
 use Rattle.apportion.proofs.Grounds.{or-none, refused-old, either}
 use Rattle.apportion.proofs.Sums.{sum-zero}
@@ -36,12 +36,13 @@ use Rattle.apportion.proofs.Lists.{filled, filled-length, list-length, list-at}
 use Rattle.book_words.proofs.Booleans.{and-both, both, cond-same}
 use Rattle.book_words.proofs.CappedSums.{within-parts}
 use Rattle.book_words.proofs.SoundTests.{sound-counted}
+use Rattle.book_words.proofs.Passengers.{others-mix-not}
 use Rattle.book_words.proofs.Ranges.{between-low, between-high}
 use Rattle.book_words.proofs.RecordRules.{entry-numbered, entry-suits, element-numbered, element-suits, element-quoted, quoted-suits}
 use Rattle.book_words.proofs.RecordsAfterWrite.{CategoryAdded, category-added, EntryAdded, entry-added, EntryStruck, entry-struck, ElementAdded, element-added}
 use Rattle.book_words.proofs.SoundRecords.{SoundFacts, facts-sound, sound-facts}
 use Rattle.book_words.proofs.WordsAfterWrite.{filled-past}
-use Rattle.book.proofs.AcceptedCalls.{struck, opened, posted, unclosed-zero, enrolled, quoted}
+use Rattle.book.proofs.AcceptedCalls.{struck, opened, posted, unclosed-zero, enrolled, quoted, enrol-measured}
 use Rattle.book.proofs.SumsAfterCall.{category-sums, closing-sums}
 use Rattle.book.proofs.CallsKeepSound.{open-keeps, post-keeps, strike-keeps, element-keeps}
 use Rattle.book.proofs.QuotedAmounts.{quote-measured}
@@ -104,6 +105,7 @@ module _ (ws : List ℕ) where
         each-category = λ p i. let z : ⊥ = omega arith in absurd z;
         each-entry = λ p i. let z : ⊥ = omega arith in absurd z;
         each-element = λ p i. let z : ⊥ = omega arith in absurd z;
+        unmixed = λ p i. let z : ⊥ = omega arith in absurd z;
         limited = λ s. rw (none .1, none .2) (omega arith);
         active = rw (none .2) (omega arith);
         balanced = λ p i. let z : ⊥ = omega arith in absurd z;
@@ -214,12 +216,10 @@ module _ (ws : List ℕ) where
         let category = categoryOf ws (e .category) in
         let numbered = not-false (between 1 (categories ws) (e .category)) (none 2) in
         let known = both (isChain (e .chain)) (isCode (e .code)) (not-false (isChain (e .chain) && isCode (e .code)) (none 3)) in
-        let amount = isAmount (e .code) (e .amount) in
-        let distance = isDistanceIn (category .kind) (e .distance) in
-        let measured = both amount distance (not-false (amount && distance) (none 7)) in
+        let measured = enrol-measured category e (not-false (enrolInRange category e) (none 7)) in
         let low = between-low 1 (categories ws) (e .category) numbered in
         sym (element-numbered ws enrolled-one (λ is. omega arith) (between-high 1 (categories ws) (e .category) numbered))
-        ∙ element-suits category enrolled-one (known .0) (known .1) (none 6) (measured .0) (measured .1) refl
+        ∙ element-suits category enrolled-one (known .0) (known .1) (none 6) (measured .amount) (measured .distance) (measured .mass) refl
         (unclosed-zero ws (e .category) (none 4)) refl refl
 
     pub enrol-sound : sound ws ≡ true → sound (enrolBook ws e) ≡ true
@@ -227,7 +227,7 @@ module _ (ws : List ℕ) where
         sound-either (enrolRefusal ws e) (enrolBook ws e) enrol-refused
         (λ z w.
         let none = enrolled ws e z in
-        element-keeps ws (enrolBook ws e) enrolled-one w (enrol-added z) (leb-false mostElements (elements ws) (none 8)) (enrolled-fine z)
+        element-keeps ws (enrolBook ws e) enrolled-one w (enrol-added z) (leb-false mostElements (elements ws) (none 8)) (enrolled-fine z) (none 14)
         (not-false (withinLimits (withElement (sumsOf ws) enrolled-one)) (none 10)) (λ p s. rw (share s) (cond-same (eqb (e .category) (p + 1)) 0)))
       where
         share : (s : Side) → shareOf s enrolled-one ≡ 0
@@ -250,14 +250,14 @@ module _ (ws : List ℕ) where
         let none = quoted ws q e in
         let known = both (isChain (q .chain)) (isAdjust (q .adjust)) (not-false (isChain (q .chain) && isAdjust (q .adjust)) (none 3)) in
         let measured = quote-measured q (not-false (quoteInRange q) (none 7)) in
-        sym (element-quoted ws (quotedElement q) refl) ∙ quoted-suits (quotedElement q) (known .0) (measured .mass) (measured .distance) refl refl
+        sym (element-quoted ws (quotedElement q) refl) ∙ quoted-suits (quotedElement q) (known .0) (measured .mass) (measured .distance) refl refl refl
 
     pub quote-sound : sound ws ≡ true → sound (quoteBook ws q) ≡ true
     quote-sound =
         sound-either (quoteRefusal ws q) (quoteBook ws q) quote-refused
         (λ e w.
         let none = quoted ws q e in
-        element-keeps ws (quoteBook ws q) (quotedElement q) w (quote-added e) (leb-false mostElements (elements ws) (none 8)) (quoted-fine e)
+        element-keeps ws (quoteBook ws q) (quotedElement q) w (quote-added e) (leb-false mostElements (elements ws) (none 8)) (quoted-fine e) (others-mix-not ws (elements ws) 0 0 0 refl)
         (not-false (withinLimits (withElement (sumsOf ws) (quotedElement q))) (none 10)) (λ p s. rw (ne-eqb 0 (p + 1) (λ z. omega arith))))
 
   -- a closing leaves the sums as they are

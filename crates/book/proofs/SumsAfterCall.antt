@@ -8,7 +8,7 @@ use lib.Dec.{eqb}
 use Rattle.apportion.specs.Places.{sumBelow}
 use Rattle.apportion.proofs.Sums.{sum-next, sum-cong}
 use Rattle.book_words.specs.Book.{entries, mostEntries, addEntry, elements, mostElements, elementAt, addElement}
-use Rattle.book_words.specs.Measures.{massActivity}
+use Rattle.book_words.specs.Measures.{standardActivity}
 use Rattle.book_words.specs.Inner.Steps.{CountsWithin}
 use Rattle.book_words.specs.Soundness.{sound}
 use Rattle.book_words.specs.declared.totals.Side.{Side}
@@ -44,11 +44,11 @@ module _ (ws ws′ : List ℕ) where
   -- the sums with one element more
   pub elements-more : (r : Element) → ElementAdded ws ws′ r
       → ((k : ℕ) (s : Side) → sharesOf ws′ k s ≡ sharesOf ws k s + cond (eqb (r .category) k) (shareOf s r) 0)
-      × (activities ws′ ≡ activities ws + massActivity r)
+      × (activities ws′ ≡ activities ws + standardActivity r)
   unfolding sharesOf activities
   elements-more r a =
       let more = sum-one-more (a .one-more) (λ p h. a .element-kept p (λ e. omega arith)) (a .element-new) in
-      (λ k s. more (λ x. cond (eqb (x .category) k) (shareOf s x) 0), more massActivity)
+      (λ k s. more (λ x. cond (eqb (x .category) k) (shareOf s x) 0), more standardActivity)
 
   -- sums that are equal one by one
   same-sums : (amount : Side → ℕ) {activity : ℕ} → ((s : Side) → emitted ws′ s ≡ amount s) → activities ws′ ≡ activity
@@ -74,13 +74,13 @@ module _ (ws ws′ : List ℕ) where
       same-sums (λ s. emitted ws s + cond (eqb (r .category) 0) (shareOf s r) 0) (λ s. omega (arith, entry .0 s, element .0 0 s)) (element .1)
 
   pub closing-sums : (category : ℕ) (share : Side → ℕ → ℕ) → CategoryClosed ws ws′ category share → CountsWithin ws → 1 ≤ category → sumsOf ws′ ≡ sumsOf ws
-  unfolding activities massActivity
+  unfolding activities standardActivity
   closing-sums category share a counts some =
       let entry = entries-kept ws ws′ (a .same-entries) (λ p h. a .entry-kept p (omega (arith, counts .entries-most))) in
       same-sums (emitted ws) (λ s. omega (arith, entry .0 s, shares-elsewhere ws ws′ category share a 0 s (λ z. omega arith)))
       (rw (a .same-elements)
-      (sum-cong (elements ws) (λ p. massActivity (elementAt ws′ p)) (λ p. massActivity (elementAt ws p))
-      (measure-kept ws ws′ category share a massActivity (λ r x y. refl))))
+      (sum-cong (elements ws) (λ p. standardActivity (elementAt ws′ p)) (λ p. standardActivity (elementAt ws p))
+      (measure-kept ws ws′ category share a standardActivity (λ r x y. refl))))
 
 -- the sums that are known, with the record that is appended to a sound book
 module _ (ws : List ℕ) {sums : Sums} where

@@ -10,7 +10,8 @@ use lib.ListN.{drop, length, set}
 use Rattle.apportion.specs.Grounds.{accepted, Ground, firstOf}
 use Rattle.apportion.specs.Places.{listBelow}
 use Rattle.book_words.specs.Book.{bookLength, mark, mostCategories, categories, addCategory, categoryOf, mostEntries, entries, addEntry, entryOf, strikeEntry, mostElements, elements, addElement, unnumbered, hasClosed}
-use Rattle.book_words.specs.Measures.{isKind, isGroup, unsuitedGroup, unsuited, isQuantity, isFactor, activityOf, isChain, isCode, isMass, isAmount, isDistance, isDistanceIn, nearest, isAdjust, isIntensity}
+use Rattle.book_words.specs.Measures.{isKind, isGroup, unsuitedGroup, unsuited, isQuantity, isFactor, activityOf, isChain, isCode, isMass, isAmount, isDistance, isDistanceIn, isKgPerHead, nearest, isAdjust, isIntensity}
+use Rattle.book_words.specs.Mixture.{mixes}
 use Rattle.book_words.specs.Soundness.{sound}
 use Rattle.book_words.specs.declared.totals.Side.{Side}
 use Rattle.book_words.specs.declared.totals.Side.the-variants.{Operation as operation, Provision as provision}
@@ -32,7 +33,7 @@ refusalAlone refusal = record { refusal = refusal; number = 0 }
 abbrev pub replyOf : ℕ → ℕ → Reply
 replyOf refusal number = record { refusal = refusal; number = accepted refusal number 0 }
 
--- "**Fresh**: the 2,404 words become 0, then word 0 is set."
+-- "**Fresh**: the 2,404 words become 0, then word 0 is set."; "The book becomes 2,660 words."
 unfoldable pub cleared : List ℕ → List ℕ
 cleared ws = listBelow bookLength (λ k. 0) ++ drop bookLength ws
 
@@ -103,7 +104,8 @@ postReply ws p = replyOf (postRefusal ws p) (entries ws + 1)
 unfoldable pub postBook : List ℕ → PostArguments → List ℕ
 postBook ws p = accepted (postRefusal ws p) (addEntry ws (postedEntry p)) ws
 
--- "**enrol** (category, chain, code, amount, distance)"; `here` is the record of the category
+-- "**enrol** (category, chain, code, amount, distance)"; kg per head: "Enrol takes it as a last number". `here` is the record of the
+-- category
 abbrev pub enrolledElement : Category → EnrolArguments → Element
 enrolledElement here e =
     record {
@@ -115,8 +117,18 @@ enrolledElement here e =
       activity = activityOf (here .kind) (e .code) (e .amount) (e .distance);
       operation = 0;
       provision = 0;
+      «kg_per_head» = e .«kg_per_head»;
     }
 
+-- the measures of an enrolment are in range; ground 7 is that one is not
+abbrev pub enrolInRange : Category → EnrolArguments → Bool
+enrolInRange here e =
+    isAmount (e .code) (e .amount)
+    && isDistanceIn (here .kind) (e .distance)
+    && isKgPerHead (e .code) (e .«kg_per_head»)
+
+-- "It refuses with 14, checked after 6, a passenger element that is weighed when an earlier one in its category is not, or the
+-- reverse"
 abbrev pub enrolGroundsIn : List ℕ → EnrolArguments → Category → List Ground
 enrolGroundsIn ws e here =
     (1, not (sound ws))
@@ -124,7 +136,8 @@ enrolGroundsIn ws e here =
     ∷ (3, not (isChain (e .chain) && isCode (e .code)))
     ∷ (4, hasClosed here)
     ∷ (6, unsuited (here .kind) (e .code))
-    ∷ (7, not (isAmount (e .code) (e .amount) && isDistanceIn (here .kind) (e .distance)))
+    ∷ (14, mixes ws (elements ws) (e .category) (e .code) (e .«kg_per_head»))
+    ∷ (7, not (enrolInRange here e))
     ∷ (8, leb mostElements (elements ws))
     ∷ (10, passesLimits (withElement (sumsOf ws) (enrolledElement here e)))
     ∷ []
@@ -174,7 +187,7 @@ unfoldable pub quotedAmount : Side → QuoteArguments → ℕ
 quotedAmount side q = nearest (quotedIntensity side q * q .mass * adjusted q) 1000
 
 -- "**Quote** (chain, adjust, mass, distance, two intensities in mg per tonne-km) appends an element of category 0, code 0";
--- "Its activity is mass × distance."
+-- "Its activity is mass × distance."; "freight and quotes hold 0"
 abbrev pub quotedElement : QuoteArguments → Element
 quotedElement q =
     record {
@@ -186,6 +199,7 @@ quotedElement q =
       activity = q .mass * q .distance;
       operation = quotedAmount operation q;
       provision = quotedAmount provision q;
+      «kg_per_head» = 0;
     }
 
 -- the measures of a quote are in range; ground 7 is that one is not

@@ -90,6 +90,7 @@ pub fn add_element(book: &mut [u64], added: Element) -> Reply
             added.activity,
             added.operation,
             added.provision,
+            added.kg_per_head,
         ],
     )
 }

@@ -20,6 +20,8 @@ pub struct EnrolArguments {
     pub amount: u64,
     // In m.
     pub distance: u64,
+    // 1 to 300 for weighed passengers; 0 for the standard 100, and for freight.
+    pub kg_per_head: u64,
 }
 
 pub struct QuoteArguments {

@@ -1,4 +1,4 @@
-// Fresh: the 2,404 words become 0, then word 0 is set.
+// Fresh: the words of the book become 0, then word 0 is set.
 ghost use mathlib.Core.Path.{_≡_};
 ghost use Prim.Native.Nat.{_≤_};
 ghost use lib.ListN.{length};

@@ -3,10 +3,10 @@ ghost use mathlib.Core.Bool.{true};
 ghost use mathlib.Core.Path.{_≡_};
 ghost use Rattle.apportion.specs.Grounds.{firstOf};
 ghost use Rattle.apportion.specs.Inner.Grounds.{groundsBefore};
-ghost use Rattle.book_words.specs.Measures.{isCode, isAmount, isDistanceIn};
+ghost use Rattle.book_words.specs.Measures.{isCode};
 ghost use Rattle.book_words.specs.Soundness.{sound};
 ghost use Rattle.book_words.specs.Totals.{sumsOf};
-ghost use Rattle.book.specs.Calls.{enrolReply, enrolBook, enrolGrounds, enrolledElement};
+ghost use Rattle.book.specs.Calls.{enrolReply, enrolBook, enrolInRange, enrolGrounds, enrolledElement};
 use crate::appending;
 use crate::arguments::EnrolArguments;
 use crate::replies;
@@ -58,20 +58,36 @@ fn refusal_number(book: &[u64], e: EnrolArguments) -> u64
     let unknown = !(book_words::is_chain(e.chain) & book_words::is_code(e.code));
     let closed = category.closed != 0;
     let unsuited = book_words::unsuited(category.kind, e.code);
-    let out_of_range = !(book_words::is_amount(e.code, e.amount)
-        & book_words::is_distance_in(category.kind, e.distance));
+    let mixed = book_words::mixes(book, e.category, e.code, e.kg_per_head);
+    let out_of_range = !enrol_in_range(category, e);
     let full = book_words::MOST_ELEMENTS <= elements;
     first_of(
-        &[2, 3, 4, 6, 7, 8],
-        &[unnumbered, unknown, closed, unsuited, out_of_range, full],
+        &[2, 3, 4, 6, 14, 7, 8],
+        &[
+            unnumbered,
+            unknown,
+            closed,
+            unsuited,
+            mixed,
+            out_of_range,
+            full,
+        ],
     )
+}
+
+// The amount, the distance and the kg per head are in range.
+fn enrol_in_range(category: Category, e: EnrolArguments) -> bool
+    ensures { λ r. ⌜ r ≡ enrolInRange category e ⌝ }
+{
+    book_words::is_amount(e.code, e.amount)
+        & book_words::is_distance_in(category.kind, e.distance)
+        & book_words::is_kg_per_head(e.code, e.kg_per_head)
 }
 
 // The element that an enrolment appends: its activity by its category's kind, its shares 0.
 fn enrolled(category: Category, e: EnrolArguments) -> Element
     requires { ⌜ isCode (e .code) ≡ true ⌝ }
-    requires { ⌜ isAmount (e .code) (e .amount) ≡ true ⌝ }
-    requires { ⌜ isDistanceIn (category .kind) (e .distance) ≡ true ⌝ }
+    requires { ⌜ enrolInRange category e ≡ true ⌝ }
     ensures { λ r. ⌜ r ≡ enrolledElement category e ⌝ }
 {
     Element {
@@ -83,5 +99,6 @@ fn enrolled(category: Category, e: EnrolArguments) -> Element
         activity: book_words::activity(category.kind, e.code, e.amount, e.distance),
         operation: 0,
         provision: 0,
+        kg_per_head: e.kg_per_head,
     }
 }

@@ -86,6 +86,7 @@ fn quoted(q: QuoteArguments) -> Element
         activity: mass * distance,
         operation: nearest_thousandth(q.operation_intensity, product),
         provision: nearest_thousandth(q.provision_intensity, product),
+        kg_per_head: 0,
     }
 }
 

@@ -1,11 +1,12 @@
 -- "Loading": a load is a list of calls, made up to the first that stops it. Assumes nothing.
-use mathlib.Core.Bool.{Bool, true, false, not, cond, _||_}
+use mathlib.Core.Bool.{Bool, true, false, not, cond, _&&_, _||_}
 use mathlib.Core.List.{List, [], _∷_, _++_}
 use Prim.Native.Nat.{ℕ, _+_}
 use lib.Dec.{ltb, eqb}
 use lib.ListN.{length}
 use Rattle.apportion.specs.Grounds.{accepted}
 use Rattle.apportion.specs.Places.{keptBelow}
+use Rattle.book_words.specs.Measures.{isPassenger}
 use Rattle.book.specs.Calls.{freshBook}
 use Rattle.book.specs.declared.arguments.PostArguments.{PostArguments}
 use Rattle.conservation.specs.declared.Call.{Call}
@@ -54,12 +55,15 @@ quoting number r =
           });
     }
 
--- "adjust and intensities must be 0 otherwise"
+-- "adjust and intensities must be 0 otherwise"; "In files the adjust field of a passenger element carries it, so 13 no longer wants 0
+-- there.": it is the kg per head
 abbrev pub enrolling : ℕ → ElementRecord → Task
 enrolling number r =
     record {
       place = Element number;
-      broken = not (eqb (r .adjust) 0) || not (eqb (r .operation) 0) || not (eqb (r .provision) 0);
+      broken = (not (isPassenger (r .code)) && not (eqb (r .adjust) 0))
+          || not (eqb (r .operation) 0)
+          || not (eqb (r .provision) 0);
       call = Enrol
           (record {
             category = r .category;
@@ -67,6 +71,7 @@ enrolling number r =
             code = r .code;
             amount = r .amount;
             distance = r .distance;
+            «kg_per_head» = r .adjust;
           });
     }
 

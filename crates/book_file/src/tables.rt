@@ -168,7 +168,8 @@ fn enrol(book: &mut [u64], sums: Sums, number: u64, element: ElementRecord) -> R
     ensures { λ r. ⌜ r .sums ≡ sumsOf (now (book .exit)) ⌝ }
 {
     let place = Place::Element(number);
-    if (element.adjust != 0) | (element.operation != 0) | (element.provision != 0) {
+    let wrong_adjust = !book_words::is_passenger(element.code) & (element.adjust != 0);
+    if wrong_adjust | (element.operation != 0) | (element.provision != 0) {
         return Reached {
             answer: Load::Stopped(13, place),
             sums,
@@ -180,6 +181,7 @@ fn enrol(book: &mut [u64], sums: Sums, number: u64, element: ElementRecord) -> R
         code: element.code,
         amount: element.amount,
         distance: element.distance,
+        kg_per_head: element.adjust,
     };
     let counted = book::enrol_sound(book, sums, e);
     counted_at(counted, place)

@@ -29,7 +29,7 @@ use Rattle.book_shares.specs.Sums.{activityAmong, passengersByMass, pool
 use Rattle.apportion.proofs.Grounds.{none-holds, decided-from, or-none}
 use Rattle.apportion.proofs.Laws.{share-of-zero}
 use Rattle.book_words.proofs.Ranges.{above-zero}
-use Rattle.book_shares.proofs.SumBounds.{mass-least, pool-limited}
+use Rattle.book_shares.proofs.SumBounds.{mass-most, pool-limited}
 use Rattle.book_shares.proofs.MemberSums.{activity-members, mass-members, divisible-members}
 use Rattle.book_shares.proofs.ClosingShares.{ToDivideBy, partsOf, weights-sum, sum-two, Divisions, parts-add}
 
@@ -85,7 +85,7 @@ module _ (ws : List ℕ) (category : ℕ) where
     some-passengers fine =
         ⊎-elim
         (λ (none : passengersByMass ws category ≡ 0). inl none)
-        (λ (some : 0 < passengersByMass ws category). inr (omega (arith, mass-least ws fine category)))
+        (λ (some : 0 < passengersByMass ws category). inr (omega (arith, mass-most ws fine category)))
         (eq-zero-or-pos (passengersByMass ws category))
 
     -- a group without elements has nothing to divide

@@ -10,7 +10,7 @@ use lib.Dec.{leb, eqb}
 use borrow.Author.Tests.{ne-eqb}
 use Rattle.apportion.specs.Places.{sumBelow}
 use Rattle.book_words.specs.Book.{categories, categoryAt, categoryOf, entries, entryAt, elements, elementAt}
-use Rattle.book_words.specs.Measures.{massActivity, between, isKind, isChain, isCode, unsuited}
+use Rattle.book_words.specs.Measures.{standardActivity, between, isKind, isChain, isCode, unsuited}
 use Rattle.book_words.specs.Soundness.{categoryFine, entryFine, entrySuits, elementFine, elementSuits, measured, sharesWait}
 use Rattle.book_words.specs.declared.totals.Side.{Side}
 use Rattle.book_words.specs.declared.totals.Side.the-variants.{Operation as operation, Provision as provision}
@@ -23,6 +23,7 @@ use Rattle.book_words.proofs.Booleans.{and-both, both}
 use Rattle.book_words.proofs.SameRecords.{same-or-not, entries-kept}
 use Rattle.book_words.proofs.Ranges.{between-low, between-high}
 use Rattle.book_words.proofs.RecordRules.{entry-inside, entry-numbered, element-quoted, element-inside, element-numbered}
+use Rattle.book_words.proofs.Passengers.{mixed-kept}
 use Rattle.book_words.proofs.SoundRecords.{SoundFacts}
 use Rattle.book_shares.proofs.CloseWrites.{CategoryClosed, withShares, closedCategory}
 
@@ -52,7 +53,7 @@ in-other number category n ne = rw (ne-eqb category number ne)
 module _ (ws ws′ : List ℕ) (category : ℕ) (share : Side → ℕ → ℕ) where
   module _ (a : CategoryClosed ws ws′ category share) where
     -- what does not look at the shares is kept
-    pub measure-kept : (f : Element → ℕ) → ((r : Element) (x y : ℕ) → f (withShares r x y) ≡ f r) → (p : ℕ) → p < elements ws
+    pub measure-kept : {A : Type 0} (f : Element → A) → ((r : Element) (x y : ℕ) → f (withShares r x y) ≡ f r) → (p : ℕ) → p < elements ws
         → f (elementAt ws′ p) ≡ f (elementAt ws p)
     measure-kept f blind p h =
         ⊎-elim
@@ -61,11 +62,11 @@ module _ (ws ws′ : List ℕ) (category : ℕ) (share : Side → ℕ → ℕ) w
         (same-or-not (elementAt ws p .category) category)
 
     activities-kept : activities ws′ ≡ activities ws
-    unfolding activities massActivity
+    unfolding activities standardActivity
     activities-kept =
         rw (a .same-elements)
-        (sum-cong (elements ws) (λ p. massActivity (elementAt ws′ p)) (λ p. massActivity (elementAt ws p))
-        (measure-kept massActivity (λ r x y. refl)))
+        (sum-cong (elements ws) (λ p. standardActivity (elementAt ws′ p)) (λ p. standardActivity (elementAt ws p))
+        (measure-kept standardActivity (λ r x y. refl)))
 
     -- the shares in the other categories are as before, and in this one they are those written
     pub shares-elsewhere : (k : ℕ) (s : Side) → (k ≡ category → ⊥) → sharesOf ws′ k s ≡ sharesOf ws k s
@@ -180,6 +181,9 @@ module _ (ws ws′ : List ℕ) (category : ℕ) (share : Side → ℕ → ℕ) w
           each-element = λ p h.
               let i : p < elements ws = omega (arith, a .same-elements) in
               element-keeps low high p i (w .each-element p i);
+          unmixed = λ p h.
+              let i : p < elements ws = omega (arith, a .same-elements) in
+              mixed-kept ws ws′ (elements ws) (measure-kept a (λ r. withShares r 0 0) (λ r x y. refl)) p i ∙ w .unmixed p i;
           limited = λ s. omega (arith, entry-sums .0 s, shares-elsewhere a 0 s (λ z. omega arith), w .limited s);
           active = omega (arith, activities-kept a, w .active);
           balanced = λ p h closed s.

@@ -7,9 +7,9 @@ use Prim.Native.Nat.{ℕ, _<_, _≤_, _*_}
 use native.Mathlib.Nat.{eq-zero-or-pos, mul-le-mul, mul-le-mul-left}
 use native.Mathlib.Omega.{arith}
 use lib.Dec.{eqb, leb}
-use borrow.Author.Tests.{eqb-true, leb-true}
+use borrow.Author.Tests.{eqb-true, eq-eqb, ne-eqb, leb-true}
 use Rattle.book_words.specs.Book.{categoryOf}
-use Rattle.book_words.specs.Measures.{isCode, unsuited, isAmount, isDistanceIn, activityOf, isFreight, between, isPassenger, isHub, massActivity, isGroup, unsuitedGroup, byMass}
+use Rattle.book_words.specs.Measures.{isCode, unsuited, isAmount, isDistanceIn, activityOf, isFreight, between, isPassenger, isHub, standardActivity, isGroup, unsuitedGroup, isKgPerHead, massPerHead, byStatedMass, byStandardMass}
 use Rattle.book_words.specs.Soundness.{mostAmount, measured, elementSuits, quotedSuits, elementFine, entryFine, entrySuits}
 use Rattle.book_words.specs.declared.records.Category.{Category}
 use Rattle.book_words.specs.declared.records.Element.{Element}
@@ -48,12 +48,25 @@ module _ (r : Element) (m : Measured r) where
   abbrev in-range : Bool
   in-range = isAmount (r .code) (r .amount) && isDistanceIn (m .kind) (r .distance)
 
-  parts : (in-range ≡ true) × (eqb (r .activity) (activityOf (m .kind) (r .code) (r .amount) (r .distance)) ≡ true)
+  abbrev known-mass : Bool
+  known-mass = isKgPerHead (r .code) (r .«kg_per_head»)
+
+  parts : (in-range && known-mass ≡ true) × (eqb (r .activity) (activityOf (m .kind) (r .code) (r .amount) (r .distance)) ≡ true)
   unfolding measured
-  parts = both in-range (eqb (r .activity) (activityOf (m .kind) (r .code) (r .amount) (r .distance))) (m .fine)
+  parts = both (in-range && known-mass) (eqb (r .activity) (activityOf (m .kind) (r .code) (r .amount) (r .distance))) (m .fine)
 
   ranges : (isAmount (r .code) (r .amount) ≡ true) × (isDistanceIn (m .kind) (r .distance) ≡ true)
-  ranges = both (isAmount (r .code) (r .amount)) (isDistanceIn (m .kind) (r .distance)) (parts .0)
+  ranges = both (isAmount (r .code) (r .amount)) (isDistanceIn (m .kind) (r .distance)) (both in-range known-mass (parts .0) .0)
+
+  -- a passenger's mass is from 1 to 300 kg
+  head-mass : isFreight (r .code) ≡ false → (1 ≤ massPerHead (r .«kg_per_head»)) × (massPerHead (r .«kg_per_head») ≤ 300)
+  head-mass e =
+      let stated = leb (r .«kg_per_head») 300 in
+      let most = leb-true (r .«kg_per_head») 300 (sym (cond-false (isFreight (r .code)) (eqb (r .«kg_per_head») 0) stated e) ∙ both in-range known-mass (parts .0) .1) in
+      ⊎-elim
+      (λ (none : r .«kg_per_head» ≡ 0). rw (eq-eqb (r .«kg_per_head») 0 none) (omega arith, omega arith))
+      (λ (some : 0 < r .«kg_per_head»). rw (ne-eqb (r .«kg_per_head») 0 (λ z. omega arith)) (some, most))
+      (eq-zero-or-pos (r .«kg_per_head»))
 
   right : r .activity ≡ activityOf (m .kind) (r .code) (r .amount) (r .distance)
   right = eqb-true (r .activity) (activityOf (m .kind) (r .code) (r .amount) (r .distance)) (parts .1)
@@ -109,21 +122,30 @@ module _ (r : Element) (m : Measured r) where
           )
 
   -- an activity is at most ten times that of ground 10
-  pub tenfold : r .activity ≤ 10 * massActivity r
-  unfolding massActivity
+  pub tenfold : r .activity ≤ 10 * standardActivity r
+  unfolding standardActivity
   tenfold = go (isFreight (r .code)) refl
     where
-      go : (t : Bool) → isFreight (r .code) ≡ t → r .activity ≤ 10 * cond t (r .activity) (byMass r)
+      go : (t : Bool) → isFreight (r .code) ≡ t → r .activity ≤ 10 * cond t (r .activity) (byStandardMass r)
       go true e = omega arith
       go false e =
           let most = mul-le-mul-left (r .amount * r .distance) (between-high 100 1000 (r .code) (class e)) in
           omega (arith, class-weighed e, most)
 
-  -- passengers have at least their activity of ground 10
-  pub at-least-mass : isFreight (r .code) ≡ false → byMass r ≤ r .activity
-  at-least-mass e =
+  -- passengers by their stated mass: at most three times what they are by the standard one and by activity, which is at most a thousand
+  -- times the first
+  pub threefold-standard : isFreight (r .code) ≡ false → byStatedMass r ≤ 3 * byStandardMass r
+  threefold-standard e = omega (arith, mul-le-mul-left (r .amount * r .distance) (head-mass e .1))
+
+  pub threefold-activity : isFreight (r .code) ≡ false → byStatedMass r ≤ 3 * r .activity
+  threefold-activity e =
       let least = mul-le-mul-left (r .amount * r .distance) (between-low 100 1000 (r .code) (class e)) in
-      omega (arith, class-weighed e, least)
+      omega (arith, class-weighed e, least, threefold-standard e)
+
+  pub thousandfold : isFreight (r .code) ≡ false → r .activity ≤ 1000 * byStatedMass r
+  thousandfold e =
+      let most = mul-le-mul-left (r .amount * r .distance) (between-high 100 1000 (r .code) (class e)) in
+      omega (arith, class-weighed e, most, mul-le-mul-left (r .amount * r .distance) (head-mass e .0))
 
 -- an entry's group is 0, 1 or 2
 pub entry-grouped : (ws : List ℕ) (r : Entry) → entryFine ws r ≡ true → r .group ≤ 2

@@ -29,7 +29,7 @@ use Rattle.apportion.proofs.Grounds.{or-none, none-holds, decided-from}
 use Rattle.book_words.proofs.CappedSums.{capped-both, capped-over}
 use Rattle.book_words.proofs.SameRecords.{same-or-not}
 use Rattle.book_words.proofs.Ranges.{above-zero}
-use Rattle.book_shares.proofs.SumBounds.{mass-tenth}
+use Rattle.book_shares.proofs.SumBounds.{activity-most}
 use Rattle.book_shares.proofs.ClosingShares.{ToDivideBy, partsOf}
 use Rattle.book_shares.proofs.CloseAccepted.{served-at}
 use Rattle.book_shares.proofs.MemberSums.{activity-members}
@@ -61,7 +61,7 @@ module _ (ws : List ℕ) (category code : ℕ) where
   activity-to-divide-by : sound ws ≡ true → lacksActivity (activityAmong ws category) code ≡ false → ToDivideBy ws category
   activity-to-divide-by fine h =
       ⊎-elim
-      (λ (is : code ≡ 100). omega (arith, some-passengers h is, mass-tenth ws fine category))
+      (λ (is : code ≡ 100). omega (arith, some-passengers h is, activity-most ws fine category))
       (λ (other : code ≡ 100 → ⊥). omega (arith, some-freight h other))
       (same-or-not code 100)
 

@@ -4,7 +4,7 @@ use mathlib.Core.Bool.{Bool, true, false, cond}
 use mathlib.Core.List.{List, [], _∷_, _++_, append-nil, append-assoc}
 use mathlib.Core.Logic.{⊎-elim, inl, inr}
 use mathlib.Core.Path.{_≡_, refl, sym, ap, _∙_}
-use Prim.Native.Nat.{ℕ, zero, suc, _+_, _≤_, _<_}
+use Prim.Native.Nat.{ℕ, zero, suc, _+_, _≤_, _<_, _*_}
 use native.Mathlib.Numerals.{add-one}
 use native.Mathlib.Omega.{arith}
 use lib.ListN.{length, drop, take, set, length-append, List·getD-append}
@@ -12,7 +12,7 @@ use lib.Seq.{getD-at, drop-cons, set-at, take-at}
 use Rattle.apportion.specs.Dividing.{divided, Divisible, mostTotal}
 use Rattle.apportion.specs.Places.{at, oneIf, countBelow, keptBelow, kept, sumOf, sumBelow}
 use Rattle.book_words.specs.Book.{elements, elementAt, mostElements}
-use Rattle.book_words.specs.Measures.{byMass}
+use Rattle.book_words.specs.Measures.{byStatedMass}
 use Rattle.book_words.specs.Inner.Steps.{numberedElement}
 use Rattle.book_words.specs.Soundness.{sound}
 use Rattle.book_words.specs.Totals.{mostActivity}
@@ -113,7 +113,7 @@ module _ (ws : List ℕ) (category : ℕ) where
 
   pub mass-members : massAt ws (members ws category) ≡ passengersByMass ws category
   unfolding sumAt passengersByMass
-  mass-members = sum-members Passengers byMass
+  mass-members = sum-members Passengers byStatedMass
 
   -- a list over all places, at those of the category's elements
   kept-members : (xs : List ℕ) → length xs ≡ elements ws → kept (isMember ws category) xs ≡ atPlaces (members ws category) (at xs)
@@ -178,7 +178,7 @@ module _ (ws places : List ℕ) (fine : sound ws ≡ true) (l : Listed ws places
       rw (l .are, activity-members ws (l .category) recipients) (activity-limited ws fine (l .category) recipients)
 
   -- F and P together
-  pub listed-served : activityAt ws places Freight + massAt ws places ≤ mostActivity
+  pub listed-served : activityAt ws places Freight + massAt ws places ≤ 3 * mostActivity
   listed-served =
       rw (l .are, activity-members ws (l .category) Freight, mass-members ws (l .category)) (served-limited ws fine (l .category))
 

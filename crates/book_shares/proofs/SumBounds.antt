@@ -9,7 +9,7 @@ use lib.Dec.{eqb}
 use borrow.Author.Tests.{leb-true, lt-leb}
 use Rattle.apportion.specs.Dividing.{mostPool, mostTotal}
 use Rattle.book_words.specs.Book.{elements, elementAt, entries, entryAt}
-use Rattle.book_words.specs.Measures.{massActivity, between, isFreight, byMass, isPassenger}
+use Rattle.book_words.specs.Measures.{standardActivity, between, isFreight, byStatedMass, byStandardMass, isPassenger}
 use Rattle.book_words.specs.Soundness.{sound}
 use Rattle.book_words.specs.declared.totals.Side.{Side}
 use Rattle.book_words.specs.Totals.{allUnstruck, unstruck, activities, mostActivity, unstruckOf}
@@ -22,7 +22,7 @@ use Rattle.apportion.proofs.Sums.{sum-le, sum-mul, sum-add, sum-cong}
 use Rattle.book_words.proofs.Booleans.{cond-most}
 use Rattle.book_words.proofs.Ranges.{between-low}
 use Rattle.book_words.proofs.SoundRecords.{SoundFacts, sound-facts}
-use Rattle.book_shares.proofs.ElementFacts.{Measured, fine-measured, tenfold, at-least-mass, entry-grouped}
+use Rattle.book_shares.proofs.ElementFacts.{Measured, fine-measured, tenfold, threefold-standard, threefold-activity, thousandfold, entry-grouped}
 
 module _ (ws : List ℕ) (fine : sound ws ≡ true) where
   abbrev whole : SoundFacts ws
@@ -51,47 +51,53 @@ module _ (ws : List ℕ) (fine : sound ws ≡ true) where
         let most =
         sum-le (elements ws)
         (λ p. among category recipients (λ e. e .activity) (elementAt ws p))
-        (λ p. 10 * massActivity (elementAt ws p))
+        (λ p. 10 * standardActivity (elementAt ws p))
         (λ p h.
         le-trans (cond-most (eqb (elementAt ws p .category) category) _)
         (le-trans (cond-most (receives recipients (elementAt ws p .code)) _) (tenfold (elementAt ws p) (at-place p h)))) in
-        omega (arith, most, sum-mul (elements ws) 10 (λ p. massActivity (elementAt ws p)), whole .active)
+        omega (arith, most, sum-mul (elements ws) 10 (λ p. standardActivity (elementAt ws p)), whole .active)
 
-    -- F + P is part of the activity of ground 10
-    pub served-limited : activityAmong ws category Freight + passengersByMass ws category ≤ mostActivity
-    unfolding activityAmong passengersByMass activities massActivity
+    -- F + P is at most three times the activity of ground 10, which counts 100 a head where P counts up to 300
+    pub served-limited : activityAmong ws category Freight + passengersByMass ws category ≤ 3 * mostActivity
+    unfolding activityAmong passengersByMass activities standardActivity
     served-limited =
         let f : ℕ → ℕ = λ p. among category Freight (λ e. e .activity) (elementAt ws p) in
-        let g : ℕ → ℕ = λ p. among category Passengers byMass (elementAt ws p) in
+        let g : ℕ → ℕ = λ p. among category Passengers byStatedMass (elementAt ws p) in
         omega (
           arith,
           sum-add (elements ws) f g,
-          sum-le (elements ws) (λ p. f p + g p) (λ p. massActivity (elementAt ws p)) (λ p h. one (elementAt ws p)),
+          sum-le (elements ws) (λ p. f p + g p) (λ p. 3 * standardActivity (elementAt ws p)) (λ p h. one (elementAt ws p) (at-place p h)),
+          sum-mul (elements ws) 3 (λ p. standardActivity (elementAt ws p)),
           whole .active,
         )
       where
-        one : (e : Element) → among category Freight (λ x. x .activity) e + among category Passengers byMass e ≤ massActivity e
-        one e = go (eqb (e .category) category) (isFreight (e .code)) refl
+        one : (e : Element) → Measured e → among category Freight (λ x. x .activity) e + among category Passengers byStatedMass e ≤ 3 * standardActivity e
+        one e m = go (eqb (e .category) category) (isFreight (e .code)) refl
           where
             go : (t f : Bool) → isFreight (e .code) ≡ f
-                → cond t (cond f (e .activity) 0) 0 + cond t (cond (isPassenger (e .code)) (byMass e) 0) 0 ≤ cond f (e .activity) (byMass e)
+                → cond t (cond f (e .activity) 0) 0 + cond t (cond (isPassenger (e .code)) (byStatedMass e) 0) 0 ≤ 3 * cond f (e .activity) (byStandardMass e)
             go false f p = omega arith
             go true true p =
                 let low = leb-true (e .code) 2 p in
                 rw (lt-leb 100 (e .code) (omega arith)) (omega arith)
-            go true false p = omega (arith, cond-most (isPassenger (e .code)) (byMass e))
+            go true false p = omega (arith, cond-most (isPassenger (e .code)) (byStatedMass e), threefold-standard e m p)
 
-    -- a sum over elements that each measure no more by one measure than by another
-    among-le : (recipients : Recipients) (f g : Element → ℕ) → ((e : Element) → Measured e → receives recipients (e .code) ≡ true → f e ≤ g e)
-        → sumAmong ws category recipients f ≤ sumAmong ws category recipients g
-    among-le recipients f g less =
-        sum-le (elements ws) (λ p. among category recipients f (elementAt ws p)) (λ p. among category recipients g (elementAt ws p))
-        (λ p h. one (elementAt ws p) (at-place p h))
+    -- a sum over elements that each measure no more by one measure than so many times what they do by another
+    among-le : (recipients : Recipients) (times : ℕ) (f g : Element → ℕ)
+        → ((e : Element) → Measured e → receives recipients (e .code) ≡ true → f e ≤ times * g e)
+        → sumAmong ws category recipients f ≤ times * sumAmong ws category recipients g
+    among-le recipients times f g less =
+        omega (
+          arith,
+          sum-le (elements ws) (λ p. among category recipients f (elementAt ws p)) (λ p. times * among category recipients g (elementAt ws p))
+              (λ p h. one (elementAt ws p) (at-place p h)),
+          sum-mul (elements ws) times (λ p. among category recipients g (elementAt ws p)),
+        )
       where
-        one : (e : Element) → Measured e → among category recipients f e ≤ among category recipients g e
+        one : (e : Element) → Measured e → among category recipients f e ≤ times * among category recipients g e
         one e m = go (eqb (e .category) category) (receives recipients (e .code)) refl
           where
-            go : (t b : Bool) → receives recipients (e .code) ≡ b → cond t (cond b (f e) 0) 0 ≤ cond t (cond b (g e) 0) 0
+            go : (t b : Bool) → receives recipients (e .code) ≡ b → cond t (cond b (f e) 0) 0 ≤ times * cond t (cond b (g e) 0) 0
             go false b p = omega arith
             go true false p = omega arith
             go true true p = less e m p
@@ -100,27 +106,14 @@ module _ (ws : List ℕ) (fine : sound ws ≡ true) where
     above : (e : Element) → between 100 1000 (e .code) ≡ true → isFreight (e .code) ≡ false
     above e h = lt-leb (e .code) 2 (omega (arith, between-low 100 1000 (e .code) h))
 
-    -- C is at least P, and at most ten times P
-    pub mass-least : passengersByMass ws category ≤ activityAmong ws category Passengers
+    -- P is at most three times C, and C at most a thousand times P
+    pub mass-most : passengersByMass ws category ≤ 3 * activityAmong ws category Passengers
     unfolding activityAmong passengersByMass
-    mass-least = among-le Passengers byMass (λ e. e .activity) (λ e m h. at-least-mass e m (above e h))
+    mass-most = among-le Passengers 3 byStatedMass (λ e. e .activity) (λ e m h. threefold-activity e m (above e h))
 
-    pub mass-tenth : activityAmong ws category Passengers ≤ 10 * passengersByMass ws category
-    unfolding activityAmong passengersByMass massActivity
-    mass-tenth =
-        let g : ℕ → ℕ = λ p. among category Passengers byMass (elementAt ws p) in
-        omega (
-          arith,
-          among-le Passengers (λ e. e .activity) (λ e. 10 * byMass e) (λ e m h. rw (above e h) at (tenfold e m)),
-          sum-cong (elements ws) (λ p. among category Passengers (λ e. 10 * byMass e) (elementAt ws p)) (λ p. 10 * g p)
-              (λ p h. times (eqb (elementAt ws p .category) category) (isPassenger (elementAt ws p .code)) (byMass (elementAt ws p))),
-          sum-mul (elements ws) 10 g,
-        )
-      where
-        times : (t b : Bool) (n : ℕ) → cond t (cond b (10 * n) 0) 0 ≡ 10 * cond t (cond b n 0) 0
-        times true true n = refl
-        times true false n = refl
-        times false b n = refl
+    pub activity-most : activityAmong ws category Passengers ≤ 1000 * passengersByMass ws category
+    unfolding activityAmong passengersByMass
+    activity-most = among-le Passengers 1000 (λ e. e .activity) byStatedMass (λ e m h. thousandfold e m (above e h))
 
     -- A, B1 and B2 are the category's unstruck entries
     pub pools-add : (side : Side) → pool ws category 0 side + pool ws category 1 side + pool ws category 2 side ≡ unstruckOf ws category side

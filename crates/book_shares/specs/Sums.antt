@@ -6,7 +6,7 @@ use Prim.Native.Nat.{ℕ}
 use lib.Dec.{eqb}
 use Rattle.apportion.specs.Places.{sumBelow}
 use Rattle.book_words.specs.Book.{entries, entryAt, elements, elementAt}
-use Rattle.book_words.specs.Measures.{byMass, isFreight, isPassenger}
+use Rattle.book_words.specs.Measures.{byStatedMass, isFreight, isPassenger}
 use Rattle.book_words.specs.declared.totals.Side.{Side}
 use Rattle.book_words.specs.Totals.{unstruck}
 use Rattle.book_words.specs.declared.records.Element.{Element}
@@ -49,6 +49,6 @@ sumAmong ws category recipients measure = sumBelow (elements ws) (λ p. among ca
 unfoldable pub activityAmong : List ℕ → ℕ → Recipients → ℕ
 activityAmong ws category recipients = sumAmong ws category recipients (λ e. e .activity)
 
--- "P is the sum of head count × 100 × distance (100 kg per passenger, Annex A.4.2)"
+-- "P is the sum of head count × 100 × distance (100 kg per passenger, Annex A.4.2)"; "P uses the stated mass"
 unfoldable pub passengersByMass : List ℕ → ℕ → ℕ
-passengersByMass ws category = sumAmong ws category Passengers byMass
+passengersByMass ws category = sumAmong ws category Passengers byStatedMass

@@ -47,16 +47,17 @@ fn weight(recipients: Recipients, e: Element) -> u64
 pub enum Measure {
     // Their activity, where a pool goes to them: F, C or S.
     Activity(Recipients),
-    // Head count × 100 × distance, where they are passengers: P.
+    // Head count × kg per head × distance, where they are passengers: P.
     Mass,
 }
 
-// Head count × 100 × distance of a passenger element, capped; 0 for any other.
+// Head count × kg per head × distance of a passenger element, capped; 0 for any other.
 fn capped_mass(e: Element) -> u64
     ensures { λ r. ⌜ r ≡ capped (measureOf Mass e) ⌝ }
 {
     if receives(Recipients::Passengers, e.code) {
-        return book_words::multiply(book_words::multiply(e.amount, 100), e.distance);
+        let mass = book_words::mass_per_head(e.kg_per_head);
+        return book_words::multiply(book_words::multiply(e.amount, mass), e.distance);
     }
     0
 }

@@ -27,3 +27,5 @@ pub mod SameRecords
 pub mod SumsByKey
 -- the shares of a sound book, by categories and by chains
 pub mod ShareSums
+-- passengers of a category that are alike
+pub mod Passengers

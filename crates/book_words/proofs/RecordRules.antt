@@ -1,8 +1,10 @@
 -- The rules of a record, by what is known of its category's number. Assumes nothing.
 use mathlib.Core.Bool.{Bool, not, true, false, _&&_, cond}
 use mathlib.Core.List.{List}
+use mathlib.Core.Logic.{⊎-elim}
 use mathlib.Core.Path.{_≡_, sym, _∙_, ap}
 use Prim.Native.Nat.{ℕ, _<_, _≤_, _+_, _*_}
+use native.Mathlib.Nat.{eq-zero-or-pos}
 use native.Mathlib.Omega.{arith}
 use lib.Dec.{eqb, leb}
 use borrow.Author.Tests.{not-true, eqb-true, eq-eqb, ne-eqb, lt-leb, le-leb, leb-true}
@@ -10,7 +12,7 @@ use Rattle.book_words.specs.declared.records.Category.{Category}
 use Rattle.book_words.specs.declared.records.Element.{Element}
 use Rattle.book_words.specs.declared.records.Entry.{Entry}
 use Rattle.book_words.specs.Book.{categories, categoryOf, entries, entryAt, categoryAt}
-use Rattle.book_words.specs.Measures.{between, isGroup, unsuitedGroup, unsuited, isMass, isAmount, isDistance, isDistanceIn, activityOf, isChain, isCode}
+use Rattle.book_words.specs.Measures.{between, isGroup, unsuitedGroup, unsuited, isMass, isAmount, isDistance, isDistanceIn, isKgPerHead, activityOf, isChain, isCode}
 use Rattle.book_words.specs.Inner.Steps.{Limited}
 use Rattle.book_words.specs.Soundness.{mostAmount, entryFine, entrySuits, quotedSuits, elementFine, elementSuits, sharesFine, measured, sharesWait}
 use Rattle.book_words.specs.declared.totals.Side.{Side}
@@ -54,6 +56,14 @@ module _ (ws : List ℕ) where
       let mine = sym (cond-false (eqb (r .category) 0) (quotedSuits r) rules (ne-eqb (r .category) 0 ne)) ∙ e in
       leb-true (r .category) (categories ws) (both (leb (r .category) (categories ws)) (elementSuits (categoryOf ws (r .category)) r) mine .0)
 
+  -- an element's category is one of the book's, or 0
+  pub element-category : (r : Element) → elementFine ws r ≡ true → r .category ≤ categories ws
+  element-category r e =
+      ⊎-elim
+      (λ (none : r .category ≡ 0). omega arith)
+      (λ (some : 0 < r .category). element-inside r (λ z. omega arith) e)
+      (eq-zero-or-pos (r .category))
+
   -- a category's unstruck entries are within 10^18, as all are
   pub category-limited : Limited ws → (category : ℕ) (side : Side) → unstruckOf ws category side ≤ mostEmissions
   unfolding unstruckOf allUnstruck
@@ -94,37 +104,39 @@ entry-suits k r known suited a b struck =
     rw (suited, known, le-leb (r .operation) mostAmount a, le-leb (r .provision) mostAmount b, le-leb (r .struck) 1 struck)
 
 pub measures-fine : (kind : ℕ) (r : Element) → isAmount (r .code) (r .amount) ≡ true → isDistanceIn kind (r .distance) ≡ true
+    → isKgPerHead (r .code) (r .«kg_per_head») ≡ true
     → r .activity ≡ activityOf kind (r .code) (r .amount) (r .distance)
     → measured kind r ≡ true
 unfolding measured
-measures-fine kind r a d e = rw (a, d, eq-eqb (r .activity) (activityOf kind (r .code) (r .amount) (r .distance)) e)
+measures-fine kind r a d m e = rw (a, d, m, eq-eqb (r .activity) (activityOf kind (r .code) (r .amount) (r .distance)) e)
 
 pub element-suits : (k : Category) (r : Element) → isChain (r .chain) ≡ true → isCode (r .code) ≡ true → unsuited (k .kind) (r .code) ≡ false
     → isAmount (r .code) (r .amount) ≡ true → isDistanceIn (k .kind) (r .distance) ≡ true
+    → isKgPerHead (r .code) (r .«kg_per_head») ≡ true
     → r .activity ≡ activityOf (k .kind) (r .code) (r .amount) (r .distance)
     → k .closed ≡ 0 → r .operation ≡ 0 → r .provision ≡ 0
     → elementSuits k r ≡ true
 unfolding elementSuits
-element-suits k r chain code suited a d e unclosed none nil =
+element-suits k r chain code suited a d m e unclosed none nil =
     rw (
       suited,
       chain,
       code,
-      measures-fine (k .kind) r a d e,
+      measures-fine (k .kind) r a d m e,
       eq-eqb (k .closed) 0 unclosed,
       eq-eqb (r .operation) 0 none,
       eq-eqb (r .provision) 0 nil,
     )
 
 pub quoted-suits : (r : Element) → isChain (r .chain) ≡ true → isMass (r .amount) ≡ true → isDistance (r .distance) ≡ true
-    → r .code ≡ 0 → r .activity ≡ r .amount * r .distance
+    → r .code ≡ 0 → r .«kg_per_head» ≡ 0 → r .activity ≡ r .amount * r .distance
     → quotedSuits r ≡ true
 unfolding quotedSuits
-quoted-suits r chain a d code e = rw (chain, eq-eqb (r .code) 0 code, a, d, eq-eqb (r .activity) (r .amount * r .distance) e)
+quoted-suits r chain a d code none e = rw (chain, eq-eqb (r .code) 0 code, a, d, eq-eqb (r .«kg_per_head») 0 none, eq-eqb (r .activity) (r .amount * r .distance) e)
 
 -- a quoted element is measured as freight outside a hub, kind 1
 abbrev quoteMeasured : Element → Bool
-quoteMeasured r = isMass (r .amount) && isDistance (r .distance) && eqb (r .activity) (r .amount * r .distance)
+quoteMeasured r = isMass (r .amount) && isDistance (r .distance) && eqb (r .«kg_per_head») 0 && eqb (r .activity) (r .amount * r .distance)
 
 pub as-freight : (r : Element) → r .code ≡ 0 → measured 1 r ≡ quoteMeasured r
 unfolding measured activityOf
@@ -166,9 +178,11 @@ pub quoted-parts : (r : Element) → quotedSuits r ≡ true → QuoteSuited r
 unfolding quotedSuits
 quoted-parts r e =
     let known = isChain (r .chain) && eqb (r .code) 0 in
-    let a = both (known && isMass (r .amount) && isDistance (r .distance)) (eqb (r .activity) (r .amount * r .distance)) e in
-    let b = both (known && isMass (r .amount)) (isDistance (r .distance)) (a .0) in
+    let far = known && isMass (r .amount) && isDistance (r .distance) in
+    let a = both (far && eqb (r .«kg_per_head») 0) (eqb (r .activity) (r .amount * r .distance)) e in
+    let f = both far (eqb (r .«kg_per_head») 0) (a .0) in
+    let b = both (known && isMass (r .amount)) (isDistance (r .distance)) (f .0) in
     let c = both known (isMass (r .amount)) (b .0) in
     let d = both (isChain (r .chain)) (eqb (r .code) 0) (c .0) in
     let ambient = eqb-true (r .code) 0 (d .1) in
-    record { known-chain = d .0; ambient = ambient; well-measured = as-freight r ambient ∙ rw (c .1, b .1, a .1) }
+    record { known-chain = d .0; ambient = ambient; well-measured = as-freight r ambient ∙ rw (c .1, b .1, f .1, a .1) }

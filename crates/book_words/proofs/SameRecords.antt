@@ -8,7 +8,7 @@ use native.Mathlib.Omega.{arith}
 use lib.Dec.{eqb}
 use Rattle.apportion.specs.Places.{sumBelow}
 use Rattle.book_words.specs.Book.{entries, entryAt, elements, elementAt}
-use Rattle.book_words.specs.Measures.{massActivity}
+use Rattle.book_words.specs.Measures.{standardActivity}
 use Rattle.book_words.specs.declared.totals.Side.{Side}
 use Rattle.book_words.specs.Totals.{allUnstruck, unstruckOf, unstruck, sharesOf, activities, shareOf}
 use Rattle.apportion.proofs.Sums.{order, sum-cong}
@@ -38,4 +38,4 @@ module _ (ws ws′ : List ℕ) where
   unfolding sharesOf activities
   elements-kept e same =
       let kept = sum-kept (elements ws) (elements ws′) (elementAt ws) (elementAt ws′) in
-      (λ k s. kept (λ r. cond (eqb (r .category) k) (shareOf s r) 0) e same, kept massActivity e same)
+      (λ k s. kept (λ r. cond (eqb (r .category) k) (shareOf s r) 0) e same, kept standardActivity e same)

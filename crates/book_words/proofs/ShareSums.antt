@@ -19,7 +19,7 @@ use Rattle.book_words.specs.declared.records.Element.{Element}
 use Rattle.apportion.proofs.Sums.{sum-cong, sum-le, sum-zero}
 use Rattle.book_words.proofs.Booleans.{both, cond-cong, cond-same, cond-most}
 use Rattle.book_words.proofs.Ranges.{between-low, between-high}
-use Rattle.book_words.proofs.RecordRules.{entry-inside, element-inside, element-quoted, element-numbered, suits-parts, quoted-parts}
+use Rattle.book_words.proofs.RecordRules.{entry-inside, element-quoted, element-numbered, suits-parts, quoted-parts, element-category}
 use Rattle.book_words.proofs.SoundRecords.{SoundFacts, sound-facts}
 use Rattle.book_words.proofs.SumsByKey.{sum-first, sum-by-key}
 
@@ -50,11 +50,7 @@ module _ (ws : List ℕ) (fine : sound ws ≡ true) where
 
   -- an element's category is one of the book's, or 0
   pub category-inside : (p : ℕ) → p < elements ws → elementAt ws p .category ≤ categories ws
-  category-inside p h =
-      ⊎-elim
-      (λ (none : elementAt ws p .category ≡ 0). omega arith)
-      (λ (some : 0 < elementAt ws p .category). element-inside ws (elementAt ws p) (λ z. omega arith) (whole .each-element p h))
-      (eq-zero-or-pos (elementAt ws p .category))
+  category-inside p h = element-category ws (elementAt ws p) (whole .each-element p h)
 
   -- an entry's category is one of the book's
   pub entry-category : (p : ℕ) → p < entries ws → (1 ≤ entryAt ws p .category) × (entryAt ws p .category ≤ categories ws)

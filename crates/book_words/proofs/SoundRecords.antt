@@ -1,20 +1,21 @@
 -- A sound book as facts about its records and sums. Assumes nothing.
-use mathlib.Core.Bool.{Bool, true}
+use mathlib.Core.Bool.{Bool, true, false, not}
 use mathlib.Core.List.{List}
 use mathlib.Core.Logic.{⊎-elim}
-use mathlib.Core.Path.{_≡_}
+use mathlib.Core.Path.{_≡_, ap}
 use Prim.Native.Nat.{ℕ, _+_, _<_, _≤_}
 use native.Mathlib.Nat.{eq-zero-or-pos}
 use native.Mathlib.Omega.{arith}
 use lib.Dec.{eqb}
 use lib.ListN.{length}
-use borrow.Author.Tests.{ne-eqb, eqb-true, eq-eqb, le-leb}
+use borrow.Author.Tests.{not-true, ne-eqb, eqb-true, eq-eqb, le-leb}
 use Rattle.apportion.specs.Places.{at}
 use Rattle.book_words.specs.Book.{bookLength, mark, categories, mostCategories, categoryAt}
 use Rattle.book_words.specs.Book.{entries, mostEntries, entryAt, elements, mostElements, elementAt}
 use Rattle.book_words.specs.Inner.Steps.{CountsWithin, Limited}
+use Rattle.book_words.specs.Mixture.{mixed}
 use Rattle.book_words.specs.Soundness.{categoryFine, entryFine, elementFine, sharesFine}
-use Rattle.book_words.specs.Soundness.{sound, headerFine, categoriesFine, entriesFine, elementsFine, sumsFine, closingsFine}
+use Rattle.book_words.specs.Soundness.{sound, headerFine, categoriesFine, entriesFine, elementsFine, passengersFine, sumsFine, closingsFine}
 use Rattle.book_words.specs.declared.totals.Side.{Side}
 use Rattle.book_words.specs.declared.totals.Side.the-variants.{Operation as operation, Provision as provision}
 use Rattle.book_words.specs.Totals.{mostEmissions, sharesOf, unstruckOf, activities, mostActivity, emitted, sumsOf}
@@ -34,6 +35,7 @@ module _ (ws : List ℕ) where
     pub each-category : (p : ℕ) → p < categories ws → categoryFine (categoryAt ws p) ≡ true
     pub each-entry : (p : ℕ) → p < entries ws → entryFine ws (entryAt ws p) ≡ true
     pub each-element : (p : ℕ) → p < elements ws → elementFine ws (elementAt ws p) ≡ true
+    pub unmixed : (p : ℕ) → p < elements ws → mixed ws p ≡ false
     pub limited : Limited ws
     pub active : activities ws ≤ mostActivity
     pub balanced : (p : ℕ) → p < categories ws → Balanced p
@@ -67,7 +69,7 @@ module _ (ws : List ℕ) where
       (eq-zero-or-pos (categoryAt ws p .closed))
 
   pub sound-facts : sound ws ≡ true → SoundFacts
-  unfolding categoriesFine entriesFine elementsFine closingsFine
+  unfolding categoriesFine entriesFine elementsFine passengersFine closingsFine
   sound-facts e =
       let p = sound-parts ws e in
       record {
@@ -76,13 +78,14 @@ module _ (ws : List ℕ) where
         each-category = every-at (categories ws) (λ k. categoryFine (categoryAt ws k)) (p .all-categories);
         each-entry = every-at (entries ws) (λ k. entryFine ws (entryAt ws k)) (p .all-entries);
         each-element = every-at (elements ws) (λ k. elementFine ws (elementAt ws k)) (p .all-elements);
+        unmixed = λ k h. not-true (mixed ws k) (every-at (elements ws) (λ q. not (mixed ws q)) (p .passengers) k h);
         limited = limits-limited ws (sums-limits ws (p .sums));
         active = within-parts (sumsOf ws) (sums-limits ws (p .sums)) .2;
         balanced = λ k h. shares-balanced k (every-at (categories ws) (sharesFine ws) (p .closings) k h);
       }
 
   pub facts-sound : SoundFacts → sound ws ≡ true
-  unfolding sound headerFine categoriesFine entriesFine elementsFine sumsFine closingsFine
+  unfolding sound headerFine categoriesFine entriesFine elementsFine passengersFine sumsFine closingsFine
   facts-sound w =
       rw (
         le-leb bookLength (length ws) (w .counts .long),
@@ -93,6 +96,7 @@ module _ (ws : List ℕ) where
         every (categories ws) (λ k. categoryFine (categoryAt ws k)) (w .each-category),
         every (entries ws) (λ k. entryFine ws (entryAt ws k)) (w .each-entry),
         every (elements ws) (λ k. elementFine ws (elementAt ws k)) (w .each-element),
+        every (elements ws) (λ k. not (mixed ws k)) (λ k h. ap not (w .unmixed k h)),
         le-leb (emitted ws operation) mostEmissions (w .limited operation),
         le-leb (emitted ws provision) mostEmissions (w .limited provision),
         le-leb (activities ws) mostActivity (w .active),

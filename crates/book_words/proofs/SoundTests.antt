@@ -10,7 +10,7 @@ use borrow.Author.Tests.{leb-true, eqb-true}
 use Rattle.apportion.specs.Places.{at}
 use Rattle.book_words.specs.Book.{mark, bookLength, categories, mostCategories, entries, mostEntries, elements, mostElements}
 use Rattle.book_words.specs.Inner.Steps.{CountsWithin, Limited, listFine}
-use Rattle.book_words.specs.Soundness.{headerFine, sumsFine, categoriesFine, entriesFine, elementsFine, closingsFine, sound, allBelow}
+use Rattle.book_words.specs.Soundness.{headerFine, sumsFine, categoriesFine, entriesFine, elementsFine, passengersFine, closingsFine, sound, allBelow}
 use Rattle.book_words.specs.declared.totals.Side.the-variants.{Operation as operation, Provision as provision}
 use Rattle.book_words.specs.Totals.{sumsOf, withinLimits}
 use Rattle.book_words.proofs.Booleans.{both}
@@ -55,7 +55,7 @@ module _ (ws : List ℕ) where
   limits-limited e provision = within-parts (sumsOf ws) e .1
 
   -- the lists in their order are the test
-  pub lists-sound : allBelow 6 (listFine ws) ≡ sound ws
+  pub lists-sound : allBelow 7 (listFine ws) ≡ sound ws
   unfolding listFine sound categoriesFine entriesFine elementsFine closingsFine
   lists-sound = refl
 
@@ -65,20 +65,22 @@ module _ (ws : List ℕ) where
     pub all-categories : categoriesFine ws ≡ true
     pub all-entries : entriesFine ws ≡ true
     pub all-elements : elementsFine ws ≡ true
+    pub passengers : passengersFine ws ≡ true
     pub sums : sumsFine ws ≡ true
     pub closings : closingsFine ws ≡ true
 
   pub sound-parts : sound ws ≡ true → Parts
   unfolding listFine categoriesFine entriesFine elementsFine closingsFine
   sound-parts e =
-      let part = every-at 6 (listFine ws) (lists-sound ∙ e) in
+      let part = every-at 7 (listFine ws) (lists-sound ∙ e) in
       record {
         header = part 0 (omega arith);
         all-categories = part 1 (omega arith);
         all-entries = part 2 (omega arith);
         all-elements = part 3 (omega arith);
-        sums = part 4 (omega arith);
-        closings = part 5 (omega arith);
+        passengers = part 4 (omega arith);
+        sums = part 5 (omega arith);
+        closings = part 6 (omega arith);
       }
 
   pub sound-counted : sound ws ≡ true → CountsWithin ws
@@ -87,12 +89,16 @@ module _ (ws : List ℕ) where
   pub sound-sums : sound ws ≡ true → withinLimits (sumsOf ws) ≡ true
   sound-sums e = sums-limits (sound-parts e .sums)
 
-  -- past the header the counts are within their limits, and past the sums they are too
+  -- past the header the counts are within their limits, past the elements each keeps its rules, and past the sums they are within their limits too
   module _ (list : ℕ) (before : allBelow list (listFine ws) ≡ true) where
     pub past-header : 0 < list → CountsWithin ws
     unfolding listFine
     past-header h = header-counted (every-at list (listFine ws) before 0 h)
 
-    pub past-sums : 4 < list → Limited ws
+    pub past-elements : 3 < list → elementsFine ws ≡ true
+    unfolding listFine elementsFine
+    past-elements h = every-at list (listFine ws) before 3 h
+
+    pub past-sums : 5 < list → Limited ws
     unfolding listFine
-    past-sums h = limits-limited (sums-limits (every-at list (listFine ws) before 4 h))
+    past-sums h = limits-limited (sums-limits (every-at list (listFine ws) before 5 h))

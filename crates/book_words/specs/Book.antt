@@ -13,9 +13,9 @@ use Rattle.book_words.specs.declared.records.Entry.{Entry}
 use Rattle.book_words.specs.declared.records.Layout.{Layout}
 use Rattle.book_words.specs.Measures.{between}
 
--- "the first 2,404 are the book"
+-- "The book becomes 2,660 words.": those before the elements, and nine for each of 256
 abbrev pub bookLength : ℕ
-bookLength = 2404
+bookLength = 2660
 
 -- "Word 0 is 14083"
 abbrev pub mark : ℕ
@@ -29,9 +29,9 @@ categoryList = record { counter = 1; first = 4; width = 2 }
 abbrev pub entryList : Layout
 entryList = record { counter = 2; first = 36; width = 5 }
 
--- "from word 356, elements, 8 words"
+-- "from word 356, elements, 8 words"; "Element records get a ninth word"
 abbrev pub elementList : Layout
-elementList = record { counter = 3; first = 356; width = 8 }
+elementList = record { counter = 3; first = 356; width = 9 }
 
 -- how many records a list has
 abbrev pub countOf : List ℕ → Layout → ℕ
@@ -113,7 +113,7 @@ abbrev pub entryOf : List ℕ → ℕ → Entry
 entryOf ws number = entryAt ws (number - 1)
 
 -- an element: "category (0 when quoted), chain (1 to 10,000), code, amount, distance, activity, operation share, provision
--- share"
+-- share"; "a ninth word, kg per head"
 abbrev pub elementAt : List ℕ → ℕ → Element
 elementAt ws place =
     record {
@@ -125,6 +125,7 @@ elementAt ws place =
       activity = at ws (elementStart place + 5);
       operation = at ws (elementStart place + operationShareWord);
       provision = at ws (elementStart place + provisionShareWord);
+      «kg_per_head» = at ws (elementStart place + 8);
     }
 
 -- the words of a record, in that order
@@ -144,6 +145,7 @@ elementWords r =
     ∷ r .activity
     ∷ r .operation
     ∷ r .provision
+    ∷ r .«kg_per_head»
     ∷ []
 
 -- a record of these words is appended to a list: they are written at the place after its last, one after the other (`sets`),
@@ -188,6 +190,7 @@ withShares r byOperation byProvision =
       activity = r .activity;
       operation = byOperation;
       provision = byProvision;
+      «kg_per_head» = r .«kg_per_head»;
     }
 
 -- ground 2: "A category or entry number is not between 1 and its count."

@@ -2,5 +2,6 @@
 pub mod Book
 pub mod Measures
 pub mod Totals
+pub mod Mixture
 pub mod Soundness
 pub mod Inner

@@ -1,5 +1,5 @@
 -- The values, the codes and the activity of "The book", grounds 3, 6 and 7, passengers by mass, and rounding. Assumes nothing.
-use mathlib.Core.Bool.{Bool, _&&_, _||_, cond}
+use mathlib.Core.Bool.{Bool, not, _&&_, _||_, cond}
 use Prim.Native.Nat.{ℕ, _*_, _+_, _/_}
 use lib.Dec.{leb, eqb}
 use Rattle.book_words.specs.declared.records.Element.{Element}
@@ -77,6 +77,14 @@ isDistance distance = between 1 40_000_000 distance
 abbrev pub isDistanceIn : ℕ → ℕ → Bool
 isDistanceIn kind distance = cond (isHub kind) (eqb distance 0) (isDistance distance)
 
+-- an element is weighed where its kg per head are stated: "kg per head, 1 to 300, or 0 for the standard 100"
+abbrev pub isWeighed : ℕ → Bool
+isWeighed kgPerHead = not (eqb kgPerHead 0)
+
+-- "ground 7 gains the range, which for freight is 0 alone"
+abbrev pub isKgPerHead : ℕ → ℕ → Bool
+isKgPerHead code kgPerHead = cond (isFreight code) (eqb kgPerHead 0) (leb kgPerHead 300)
+
 -- "intensity 0 to 10^9"
 abbrev pub isIntensity : ℕ → Bool
 isIntensity intensity = leb intensity 1_000_000_000
@@ -86,21 +94,26 @@ unfoldable pub activityOf : ℕ → ℕ → ℕ → ℕ → ℕ
 activityOf kind code amount distance =
     cond (isFreight code) (cond (isHub kind) amount (amount * distance)) (amount * code * distance)
 
--- "head count × 100 × distance (100 kg per passenger, Annex A.4.2)"
-abbrev pub headsByMass : ℕ → ℕ → ℕ
-headsByMass heads distance = heads * 100 * distance
+-- the mass of a passenger, in kg: "the stated mass", or "the standard 100"
+abbrev pub massPerHead : ℕ → ℕ
+massPerHead kgPerHead = cond (isWeighed kgPerHead) kgPerHead 100
 
--- passengers by mass, as they count in P
-abbrev pub byMass : Element → ℕ
-byMass e = headsByMass (e .amount) (e .distance)
+-- passengers by mass: "head count × 100 × distance (100 kg per passenger, Annex A.4.2)", where "P uses the stated mass, and so does
+-- the exact share"
+abbrev pub headsByMass : ℕ → ℕ → ℕ → ℕ
+headsByMass heads kgPerHead distance = heads * massPerHead kgPerHead * distance
 
--- passengers by mass, as they count in ground 10: "passengers as in P"
+-- passengers as they count in P
+abbrev pub byStatedMass : Element → ℕ
+byStatedMass e = headsByMass (e .amount) (e .«kg_per_head») (e .distance)
+
+-- passengers as they count in ground 10, which "still counts 100 per head"
 abbrev pub byStandardMass : Element → ℕ
 byStandardMass e = e .amount * 100 * e .distance
 
 -- an element's activity in ground 10
-unfoldable pub massActivity : Element → ℕ
-massActivity e = cond (isFreight (e .code)) (e .activity) (byStandardMass e)
+unfoldable pub standardActivity : Element → ℕ
+standardActivity e = cond (isFreight (e .code)) (e .activity) (byStandardMass e)
 
 -- "nearest, halves up": the whole number nearest to n / d, where d is above 0
 abbrev pub nearest : ℕ → ℕ → ℕ

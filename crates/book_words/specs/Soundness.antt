@@ -9,7 +9,8 @@ use Rattle.book_words.specs.declared.records.Category.{Category}
 use Rattle.book_words.specs.declared.records.Element.{Element}
 use Rattle.book_words.specs.declared.records.Entry.{Entry}
 use Rattle.book_words.specs.Book.{bookLength, mark, categories, mostCategories, entries, mostEntries, elements, mostElements, categoryOf, categoryAt, entryAt, elementAt}
-use Rattle.book_words.specs.Measures.{isKind, isGroup, unsuited, unsuitedGroup, between, isMass, isAmount, isDistance, isDistanceIn, activityOf, isChain, isCode}
+use Rattle.book_words.specs.Measures.{isKind, isGroup, unsuited, unsuitedGroup, between, isMass, isAmount, isDistance, isDistanceIn, isKgPerHead, activityOf, isChain, isCode}
+use Rattle.book_words.specs.Mixture.{mixed}
 use Rattle.book_words.specs.declared.totals.Side.the-variants.{Operation as operation, Provision as provision}
 use Rattle.book_words.specs.Totals.{sumsOf, withinLimits, sharesOf, unstruckOf}
 
@@ -47,20 +48,23 @@ entrySuits category r =
 unfoldable pub entryFine : List ℕ → Entry → Bool
 entryFine ws r = between 1 (categories ws) (r .category) && entrySuits (categoryOf ws (r .category)) r
 
--- an element's amount and distance are in range for this kind, and it "has the right activity"
+-- an element's amount, distance and kg per head are in range for this kind, and it "has the right activity"
 unfoldable pub measured : ℕ → Element → Bool
 measured kind r =
     isAmount (r .code) (r .amount)
     && isDistanceIn kind (r .distance)
+    && isKgPerHead (r .code) (r .«kg_per_head»)
     && eqb (r .activity) (activityOf kind (r .code) (r .amount) (r .distance))
 
--- "(a quoted element has code 0 and a distance above 0)"; "Its activity is mass × distance." Its shares are any words within the sums
+-- "(a quoted element has code 0 and a distance above 0)"; "freight and quotes hold 0"; "Its activity is mass × distance." Its shares are
+-- any words within the sums
 unfoldable pub quotedSuits : Element → Bool
 quotedSuits r =
     isChain (r .chain)
     && eqb (r .code) 0
     && isMass (r .amount)
     && isDistance (r .distance)
+    && eqb (r .«kg_per_head») 0
     && eqb (r .activity) (r .amount * r .distance)
 
 -- "shares in open categories are 0"
@@ -105,6 +109,10 @@ entriesFine ws = allBelow (entries ws) (λ p. entryFine ws (entryAt ws p))
 unfoldable pub elementsFine : List ℕ → Bool
 elementsFine ws = allBelow (elements ws) (λ p. elementFine ws (elementAt ws p))
 
+-- "a book that already holds such a mixture is not sound": none of its elements mixes with those before it
+unfoldable pub passengersFine : List ℕ → Bool
+passengersFine ws = allBelow (elements ws) (λ p. not (mixed ws p))
+
 unfoldable pub closingsFine : List ℕ → Bool
 closingsFine ws = allBelow (categories ws) (sharesFine ws)
 
@@ -114,5 +122,6 @@ sound ws =
     && categoriesFine ws
     && entriesFine ws
     && elementsFine ws
+    && passengersFine ws
     && sumsFine ws
     && closingsFine ws

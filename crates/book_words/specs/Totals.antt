@@ -10,7 +10,7 @@ use Rattle.book_words.specs.declared.records.Element.{Element}
 use Rattle.book_words.specs.declared.records.Entry.{Entry}
 use Rattle.book_words.specs.declared.totals.Sums.{Sums}
 use Rattle.book_words.specs.Book.{entries, entryAt, elements, elementAt}
-use Rattle.book_words.specs.Measures.{massActivity}
+use Rattle.book_words.specs.Measures.{standardActivity}
 
 -- "Operation (VO) and provision (VEP) amounts are kept separate throughout (Formulae 1 to 5).": an entry's amount, and an element's
 -- share, of this `Side`
@@ -50,7 +50,7 @@ mostEmissions = 1_000_000_000_000_000_000
 
 -- ground 10: "activity over all elements (hubs and quotes too, passengers as in P)"
 unfoldable pub activities : List ℕ → ℕ
-activities ws = sumBelow (elements ws) (λ p. massActivity (elementAt ws p))
+activities ws = sumBelow (elements ws) (λ p. standardActivity (elementAt ws p))
 
 -- its limit: "10^17"
 abbrev pub mostActivity : ℕ
@@ -79,7 +79,7 @@ withElement sums e =
     record {
       operation = sums .operation + quotedShare operation e;
       provision = sums .provision + quotedShare provision e;
-      activity = sums .activity + massActivity e;
+      activity = sums .activity + standardActivity e;
     }
 
 -- no sum passes its limit of ground 10

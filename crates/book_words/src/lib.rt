@@ -1,6 +1,7 @@
 // The words of a book (document 01, "The book"): its records, the sums over them, and the test of its
 // soundness. What the calls of the crate above are made of.
 mod measures;
+mod mixture;
 mod records;
 mod soundness;
 mod totals;
@@ -12,10 +13,14 @@ pub use measures::is_chain;
 pub use measures::is_code;
 pub use measures::is_distance;
 pub use measures::is_distance_in;
+pub use measures::is_kg_per_head;
 pub use measures::is_kind;
 pub use measures::is_mass;
+pub use measures::is_passenger;
+pub use measures::mass_per_head;
 pub use measures::unsuited;
 pub use measures::unsuited_group;
+pub use mixture::mixes;
 pub use records::BOOK_LENGTH;
 pub use records::CATEGORIES;
 pub use records::CATEGORY_LIST;

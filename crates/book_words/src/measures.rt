@@ -1,6 +1,6 @@
 // Codes, ranges and activities.
 ghost use mathlib.Core.Path.{_≡_};
-ghost use Rattle.book_words.specs.Measures.{isKind, isChain, isCode, unsuited, unsuitedGroup, isMass, isHeads, isAmount, isDistance, isDistanceIn, activityOf};
+ghost use Rattle.book_words.specs.Measures.{isKind, isChain, isCode, isPassenger, unsuited, unsuitedGroup, isMass, isHeads, isAmount, isDistance, isDistanceIn, isKgPerHead, massPerHead, activityOf};
 ghost use Rattle.book_words.specs.Inner.Steps.{capped};
 use crate::totals;
 
@@ -23,6 +23,13 @@ pub fn is_code(code: u64) -> bool
     ensures { λ r. ⌜ r ≡ isCode code ⌝ }
 {
     (code <= 2) | ((100 <= code) & (code <= 1000))
+}
+
+// A passenger class.
+pub fn is_passenger(code: u64) -> bool
+    ensures { λ r. ⌜ r ≡ isPassenger code ⌝ }
+{
+    (100 <= code) & (code <= 1000)
 }
 
 // Freight in kind 2, or passengers in kind 1 or 4.
@@ -75,6 +82,26 @@ pub fn is_distance_in(kind: u64, distance: u64) -> bool
         return distance == 0;
     }
     is_distance(distance)
+}
+
+// 0 to 300 for passengers, only 0 for freight.
+pub fn is_kg_per_head(code: u64, kg_per_head: u64) -> bool
+    ensures { λ r. ⌜ r ≡ isKgPerHead code «kg_per_head» ⌝ }
+{
+    if code <= 2 {
+        return kg_per_head == 0;
+    }
+    kg_per_head <= 300
+}
+
+// The mass of a passenger in kg: as stated, or the standard 100.
+pub fn mass_per_head(kg_per_head: u64) -> u64
+    ensures { λ r. ⌜ r ≡ massPerHead «kg_per_head» ⌝ }
+{
+    if kg_per_head == 0 {
+        return 100;
+    }
+    kg_per_head
 }
 
 // The activity of an amount over a distance, capped.

@@ -5,7 +5,7 @@ ghost use lib.ListN.{length};
 ghost use Rattle.book_words.specs.Book.{bookLength, mostCategories, categoryAt, mostEntries, entryAt, mostElements, elementAt};
 
 // The words of a book.
-pub const BOOK_LENGTH: usize = 2404;
+pub const BOOK_LENGTH: usize = 2660;
 
 // Word 0 of a book.
 pub const MARK: u64 = 14083;
@@ -42,7 +42,7 @@ pub const ENTRY_LIST: Layout = Layout {
 pub const ELEMENT_LIST: Layout = Layout {
     counter: ELEMENTS,
     first: 356,
-    width: 8,
+    width: 9,
 };
 
 // The words that are read or written by themselves, each counted from the start of its record.
@@ -88,6 +88,8 @@ pub struct Element {
     pub activity: u64,
     pub operation: u64,
     pub provision: u64,
+    // 0 where the passengers are not weighed, and for freight and quotes.
+    pub kg_per_head: u64,
 }
 
 pub fn read_category(book: &[u64], place: usize) -> Category
@@ -129,5 +131,6 @@ pub fn read_element(book: &[u64], place: usize) -> Element
         activity: book[at + 5],
         operation: book[at + OPERATION_SHARE_WORD],
         provision: book[at + PROVISION_SHARE_WORD],
+        kg_per_head: book[at + 8],
     }
 }

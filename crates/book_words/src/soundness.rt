@@ -9,6 +9,7 @@ ghost use Rattle.book_words.specs.Inner.Steps.{numberedCategory, numbere
 ghost use Rattle.book_words.specs.Soundness.{allBelow, sound, headerFine, categoryFine, entryFine, entrySuits, sumsFine, sharesFine};
 ghost use Rattle.book_words.specs.Soundness.{elementFine, quotedSuits, elementSuits, measured, sharesWait};
 use crate::measures;
+use crate::mixture;
 use crate::records;
 use crate::records::Category;
 use crate::records::Element;
@@ -18,13 +19,13 @@ use crate::totals;
 // The largest amount of an entry, 10^18 µg.
 const MOST_AMOUNT: u64 = 1_000_000_000_000_000_000;
 
-// The book is sound. Its header and its sums are tested as lists of one record each.
+// The book is sound. Its header, its passengers and its sums are tested as lists of one record each.
 pub fn is_sound(book: &[u64]) -> bool
     ensures { λ r. ⌜ r ≡ sound (now (book .entry)) ⌝ }
 {
     let mut good = true;
     let mut list = 0;
-    'lists: while list < 6 {
+    'lists: while list < 7 {
         let count = count_in(book, list);
         let mut place = 0;
         while place < count {
@@ -84,6 +85,7 @@ pub fn numbered_element(book: &[u64], number: u64) -> Element
         activity: 0,
         operation: 0,
         provision: 0,
+        kg_per_head: 0,
     }
 }
 
@@ -108,13 +110,13 @@ fn sums_fine(book: &[u64]) -> bool
     totals::are_within(totals::capped_sums(book))
 }
 
-// How many records a list has: 0 header, 1 categories, 2 entries, 3 elements, 4 sums, 5 closings.
+// How many records a list has: 0 header, 1 categories, 2 entries, 3 elements, 4 passengers, 5 sums, 6 closings.
 fn count_in(book: &[u64], list: u64) -> usize
     requires { ⌜ allBelow list (listFine (now book)) ≡ true ⌝ }
     ensures { λ r. ⌜ r ≡ countIn (now (book .entry)) list ⌝ }
 {
     match list {
-        1 | 5 => book[records::CATEGORIES] as usize,
+        1 | 6 => book[records::CATEGORIES] as usize,
         2 => book[records::ENTRIES] as usize,
         3 => book[records::ELEMENTS] as usize,
         _ => 1,
@@ -124,7 +126,7 @@ fn count_in(book: &[u64], list: u64) -> usize
 // The record at this place of a list keeps its rules, where those of the lists before do.
 fn record_fine(book: &[u64], list: u64, place: usize) -> bool
     requires { ⌜ allBelow list (listFine (now book)) ≡ true ⌝ }
-    requires { ⌜ list < 6 ⌝ }
+    requires { ⌜ list < 7 ⌝ }
     requires { ⌜ place < countIn (now book) list ⌝ }
     ensures { λ r. ⌜ r ≡ recordFine (now (book .entry)) list place ⌝ }
 {
@@ -133,7 +135,8 @@ fn record_fine(book: &[u64], list: u64, place: usize) -> bool
         1 => category_fine(records::read_category(book, place)),
         2 => entry_fine(book, place),
         3 => element_fine(book, place),
-        4 => sums_fine(book),
+        4 => mixture::passengers_fine(book),
+        5 => sums_fine(book),
         _ => shares_fine(book, place),
     }
 }
@@ -205,12 +208,14 @@ fn element_suits(category: Category, r: Element) -> bool
     measured(category.kind, r) & shares_wait(category, r)
 }
 
-// The amount and the distance are in range, and the activity is right.
+// The amount, the distance and the kg per head are in range, and the activity is right.
 fn measured(kind: u64, r: Element) -> bool
     requires { ⌜ isCode (r .code) ≡ true ⌝ }
     ensures { λ b. ⌜ b ≡ measured kind r ⌝ }
 {
-    if !(measures::is_amount(r.code, r.amount) & measures::is_distance_in(kind, r.distance)) {
+    if !(measures::is_amount(r.code, r.amount)
+        & measures::is_distance_in(kind, r.distance)
+        & measures::is_kg_per_head(r.code, r.kg_per_head)) {
         return false;
     }
     r.activity == measures::activity(kind, r.code, r.amount, r.distance)

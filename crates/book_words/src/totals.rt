@@ -4,7 +4,7 @@ ghost use mathlib.Core.Path.{_≡_};
 ghost use Prim.Native.Nat.{_+_, _*_};
 ghost use lib.Dec.{eqb};
 ghost use Rattle.book_words.specs.Book.{entries};
-ghost use Rattle.book_words.specs.Measures.{massActivity};
+ghost use Rattle.book_words.specs.Measures.{standardActivity};
 ghost use Rattle.book_words.specs.Inner.Steps.{bySides, sideOf, sumsBelow, CountsWithin};
 ghost use Rattle.book_words.specs.Soundness.{sound};
 ghost use Rattle.book_words.specs.Totals.{unstruck, unstruckOf, shareOf, sharesOf};
@@ -157,9 +157,9 @@ pub fn capped_shares_of(book: &[u64], category: u64) -> Amounts
     sum
 }
 
-// An element's activity, passengers as in P.
-fn capped_mass_activity(e: Element) -> u64
-    ensures { λ r. ⌜ r ≡ capped (massActivity e) ⌝ }
+// An element's activity in ground 10, passengers by 100 kg.
+fn capped_standard_activity(e: Element) -> u64
+    ensures { λ r. ⌜ r ≡ capped (standardActivity e) ⌝ }
 {
     if e.code <= 2 {
         return add(0, e.activity);
@@ -229,7 +229,7 @@ pub fn capped_with_element(sums: Sums, e: Element) -> Sums
     Sums {
         operation: add(sums.operation, quoted.operation),
         provision: add(sums.provision, quoted.provision),
-        activity: add(sums.activity, capped_mass_activity(e)),
+        activity: add(sums.activity, capped_standard_activity(e)),
     }
 }
 

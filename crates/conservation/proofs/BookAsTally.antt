@@ -66,6 +66,7 @@ enrolmentOf r =
         code = r .code;
         amount = r .amount;
         distance = r .distance;
+        «kg_per_head» = r .«kg_per_head»;
       };
       activity = r .activity;
     }

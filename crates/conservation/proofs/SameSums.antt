@@ -8,7 +8,7 @@ use native.Mathlib.Omega.{arith}
 use borrow.Author.Tests.{ne-eqb}
 use Rattle.apportion.specs.Places.{sumBelow}
 use Rattle.book_words.specs.Book.{entries, mostEntries, entryAt, elements, elementAt}
-use Rattle.book_words.specs.Measures.{byMass}
+use Rattle.book_words.specs.Measures.{byStatedMass}
 use Rattle.book_words.specs.declared.totals.Side.{Side}
 use Rattle.book_words.specs.declared.records.Element.{Element}
 use Rattle.book_words.specs.declared.records.Entry.{Entry}
@@ -131,7 +131,7 @@ module _ (ws ws′ : List ℕ) (category : ℕ) where
   -- P
   passengers-same : ElementsUnmoved ws ws′ category → passengersByMass ws′ category ≡ passengersByMass ws category
   unfolding passengersByMass
-  passengers-same u = among-same u Passengers byMass (λ r x y. refl)
+  passengers-same u = among-same u Passengers byStatedMass (λ r x y. refl)
 
   -- and so is every exact share by these sums
   pub exact-same : EntriesUnmoved ws ws′ category → ElementsUnmoved ws ws′ category → (side : Side) (r : Element)

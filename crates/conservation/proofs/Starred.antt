@@ -8,9 +8,10 @@ use borrow.Author.Tests.{eqb-true}
 use Rattle.apportion.specs.Dividing.{refusal, sharesAfter, divided, floorAt, remainderAt, leftOver, before, rank, unitFor, unitAt, shareAt}
 use Rattle.apportion.specs.Places.{sumOf}
 use Rattle.book_words.specs.Book.{addCategory, addEntry, addElement}
-use Rattle.book_words.specs.Measures.{activityOf, massActivity}
+use Rattle.book_words.specs.Measures.{activityOf, standardActivity}
+use Rattle.book_words.specs.Mixture.{passengerBelow, mixes}
 use Rattle.book_words.specs.Soundness.{headerFine, categoryFine, entrySuits, entryFine, measured, quotedSuits, elementSuits, elementFine}
-use Rattle.book_words.specs.Soundness.{sumsFine, sharesFine, categoriesFine, entriesFine, elementsFine, closingsFine, sound}
+use Rattle.book_words.specs.Soundness.{sumsFine, sharesFine, categoriesFine, entriesFine, elementsFine, passengersFine, closingsFine, sound}
 use Rattle.book_words.specs.declared.totals.Side.{Side}
 use Rattle.book_words.specs.declared.totals.Side.the-variants.{Operation as operation, Provision as provision}
 use Rattle.book_words.specs.Totals.{allUnstruck, unstruckOf, sharesOf, activities}
@@ -69,8 +70,9 @@ every-row (r ∷ rs) e = each (test r) (testRows rs) (holds r) (every-row rs) e
 -- Every starred case holds: the test of the table computes to true.
 pub starred-hold : EveryRow starred
 unfolding refusal sharesAfter divided floorAt remainderAt leftOver before rank unitFor unitAt shareAt sumOf cleared freshRefusal freshBook
-    addCategory addEntry addElement activityOf massActivity headerFine categoryFine entrySuits entryFine measured quotedSuits
-    elementSuits elementFine sumsFine sharesFine categoriesFine entriesFine elementsFine closingsFine sound allUnstruck unstruckOf
+    addCategory addEntry addElement activityOf standardActivity headerFine categoryFine entrySuits entryFine measured quotedSuits
+    elementSuits elementFine passengerBelow mixes sumsFine sharesFine categoriesFine entriesFine elementsFine passengersFine closingsFine
+    sound allUnstruck unstruckOf
     sharesOf activities closeRefusal closeWith closeBook dividedAll weights partAt closingShare poolOf activityAmong
     passengersByMass openRefusal openReply openBook postRefusal postReply postBook enrolRefusal enrolReply enrolBook
     quotedAmount quoteRefusal quoteReply quoteBook emissions closedIn

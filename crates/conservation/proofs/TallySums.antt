@@ -9,7 +9,7 @@ use lib.Dec.{eqb}
 use borrow.Author.Tests.{eqb-true, eqb-false, ne-eqb}
 use Rattle.apportion.specs.Places.{sumBelow}
 use Rattle.book_words.specs.Book.{entries, entryAt, elements, elementAt, isClosed}
-use Rattle.book_words.specs.Measures.{byMass}
+use Rattle.book_words.specs.Measures.{byStatedMass}
 use Rattle.book_words.specs.Soundness.{sound}
 use Rattle.book_words.specs.declared.totals.Side.{Side}
 use Rattle.book_words.specs.declared.totals.Side.the-variants.{Operation as operation, Provision as provision}
@@ -24,7 +24,7 @@ use Rattle.book.specs.Statements.{waits}
 use Rattle.apportion.proofs.Sums.{sum-cong}
 use Rattle.book_words.proofs.ShareSums.{entry-category, category-inside}
 use Rattle.conservation.specs.Conserved.{sumNumbered, chainOf, waitsIn, unstruckOn, entryEmissions, elementEmissions}
-use Rattle.conservation.specs.Conserved.{amongIn, poolIn, activityIn, massIn, byMassIn, exactIn}
+use Rattle.conservation.specs.Conserved.{amongIn, poolIn, activityIn, massIn, byStatedMassIn, exactIn}
 use Rattle.conservation.specs.Tally.{TallyEntry, TallyElement, Enrolment, Quotation, enrolled, quoted, numbered}
 use Rattle.conservation.proofs.TallyLists.{sum-listing, numbered-some}
 use Rattle.conservation.proofs.BookAsTally.{readEntry, enrolmentOf, quotationOf, readElement, tallyOf, closed-read}
@@ -137,8 +137,8 @@ module _ (ws : List ℕ) where
     mass-read : massIn (tallyOf ws) category ≡ passengersByMass ws category
     unfolding massIn passengersByMass
     mass-read =
-        elements-sum (λ k e. amongIn category Passengers byMassIn e) (λ p. among category Passengers byMass (elementAt ws p))
-        (λ p h. among-read category enrols Passengers byMassIn byMass (λ r. refl) (elementAt ws p))
+        elements-sum (λ k e. amongIn category Passengers byStatedMassIn e) (λ p. among category Passengers byStatedMass (elementAt ws p))
+        (λ p h. among-read category enrols Passengers byStatedMassIn byStatedMass (λ r. refl) (elementAt ws p))
 
   -- the exact share by the tally's sums is that by the book's
   pub exact-read : (r : Element) (side : Side) → (r .category ≡ 0 → ⊥) → exactIn (tallyOf ws) side (enrolmentOf r) ≡ exactOf ws (r .category) side r

@@ -110,12 +110,13 @@ unfoldable pub activityIn : Tally → ℕ → Recipients → ℕ
 activityIn t category recipients = sumOver (t .elements) (amongIn category recipients (λ e. e .activity))
 
 -- an enrolment's passengers by mass
-abbrev pub byMassIn : Enrolment → ℕ
-byMassIn e = headsByMass (e .arguments .amount) (e .arguments .distance)
+abbrev pub byStatedMassIn : Enrolment → ℕ
+byStatedMassIn e = headsByMass (e .arguments .amount) (e .arguments .«kg_per_head») (e .arguments .distance)
 
--- "P is the sum of head count × 100 × distance (100 kg per passenger, Annex A.4.2)"
+-- "P is the sum of head count × 100 × distance (100 kg per passenger, Annex A.4.2)"; "P uses the stated mass, and so does the exact
+-- share"
 unfoldable pub massIn : Tally → ℕ → ℕ
-massIn t category = sumOver (t .elements) (amongIn category Passengers byMassIn)
+massIn t category = sumOver (t .elements) (amongIn category Passengers byStatedMassIn)
 
 -- the exact share of an enrolment, by these sums
 unfoldable pub exactIn : Tally → Side → Enrolment → Fraction

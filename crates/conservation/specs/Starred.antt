@@ -62,10 +62,11 @@ postCall group quantity operationFactor provisionFactor =
       «provision_factor» = provisionFactor;
     })
 
--- an enrolment in category 1 over 1 m: chain, code, amount
-abbrev enrolCall : ℕ → ℕ → ℕ → Call
-enrolCall chain code amount =
-    Enrol (record { category = 1; chain = chain; code = code; amount = amount; distance = 1 })
+-- an enrolment in category 1 over 1 m: chain, code, amount, kg per head
+abbrev enrolCall : ℕ → ℕ → ℕ → ℕ → Call
+enrolCall chain code amount kgPerHead =
+    Enrol
+    (record { category = 1; chain = chain; code = code; amount = amount; distance = 1; «kg_per_head» = kgPerHead })
 
 -- a quote for chain 1: adjust, mass, distance, operation intensity, provision intensity
 abbrev quoteCall : ℕ → ℕ → ℕ → ℕ → ℕ → Call
@@ -96,13 +97,27 @@ starred =
     (callsMade
     (Open 3
     ∷ postCall 0 9 1 3
-    ∷ enrolCall 1 0 100
-    ∷ enrolCall 2 100 1
-    ∷ enrolCall 3 400 1
+    ∷ enrolCall 1 0 100 0
+    ∷ enrolCall 2 100 1 0
+    ∷ enrolCall 3 400 1 0
     ∷ Close 1
     ∷ []))
     (3 ∷ 1 ∷ 5 ∷ [])
     (9 ∷ 4 ∷ 14 ∷ [])
+    -- The same with heads of 50 kg. A 9 over F 100 and P 100 is 5 and 4, the unit left over to the first; 4 over 100 and 400 is 0 and 3,
+    -- and the unit left over goes to the first, of the larger remainder.
+    -- Provision: A 27 is 14 and 13; 13 over 100 and 400 is 2 and 10, and the unit left over goes to the first
+    ∷ row
+    (callsMade
+    (Open 3
+    ∷ postCall 0 9 1 3
+    ∷ enrolCall 1 0 100 0
+    ∷ enrolCall 2 100 1 50
+    ∷ enrolCall 3 400 1 50
+    ∷ Close 1
+    ∷ []))
+    (5 ∷ 1 ∷ 3 ∷ [])
+    (14 ∷ 3 ∷ 10 ∷ [])
     -- "*A 8, B1 5, ambient 100, chilled 300: 2 and 11."
     -- Provision: A 16 over 100 and 300 is 4 and 12, and B1 5 is the chilled element's
     ∷ row
@@ -110,8 +125,8 @@ starred =
     (Open 1
     ∷ postCall 0 8 1 2
     ∷ postCall 1 5 1 1
-    ∷ enrolCall 1 0 100
-    ∷ enrolCall 2 1 300
+    ∷ enrolCall 1 0 100 0
+    ∷ enrolCall 2 1 300 0
     ∷ Close 1
     ∷ []))
     (2 ∷ 11 ∷ [])

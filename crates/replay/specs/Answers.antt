@@ -21,7 +21,7 @@ use Rattle.book_file.specs.Loading.{loadNumbers, loadBook}
 use Rattle.replay.specs.declared.output.Answer.{Answer}
 use Rattle.replay.specs.declared.records.Words.{Words}
 
--- the arguments of a post, an enrolment and a quote, in document 01's order
+-- the arguments of a post, an enrolment and a quote, in the order of documents 01 and 02
 abbrev postOf : Words → PostArguments
 postOf words =
     record {
@@ -40,6 +40,7 @@ enrolOf words =
       code = words .third;
       amount = words .fourth;
       distance = words .fifth;
+      «kg_per_head» = words .sixth;
     }
 
 abbrev quoteOf : Words → QuoteArguments

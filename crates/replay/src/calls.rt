@@ -122,6 +122,7 @@ fn call_of(words: Words) -> Call
             code: words.third,
             amount: words.fourth,
             distance: words.fifth,
+            kg_per_head: words.sixth,
         }),
         6 => Call::Quote(QuoteArguments {
             chain: words.first,

@@ -8,7 +8,7 @@ use lib.Dec.{eqb}
 use lib.ListN.{length, drop}
 use Rattle.apportion.specs.Places.{at, keptBelow, listBelow, sumBelow}
 use Rattle.book_words.specs.Book.{elements, elementAt}
-use Rattle.book_words.specs.Measures.{byMass}
+use Rattle.book_words.specs.Measures.{byStatedMass}
 use Rattle.book_words.specs.declared.records.Element.{Element}
 use Rattle.book_shares.specs.declared.weights.Measure.{Measure}
 use Rattle.book_shares.specs.declared.weights.Measure.the-variants.{Activity, Mass}
@@ -40,7 +40,7 @@ atPlaces places f = listBelow (length places) (λ i. f (at places i))
 -- what an element adds to a sum: F, C and S are sums of activities, P is the passengers' by mass
 abbrev pub measureOf : Measure → Element → ℕ
 measureOf (Activity recipients) e = ifRecipient recipients (e .code) (e .activity)
-measureOf Mass e = ifRecipient Passengers (e .code) (byMass e)
+measureOf Mass e = ifRecipient Passengers (e .code) (byStatedMass e)
 
 -- the weights of the elements at these places
 unfoldable pub weightsAt : List ℕ → List ℕ → Recipients → List ℕ

@@ -2,10 +2,10 @@
 -- promise. Assumes nothing.
 use mathlib.Core.Bool.{Bool, _||_, cond}
 use mathlib.Core.List.{List, []}
-use Prim.Native.Nat.{ℕ, _+_, _-_, _≤_, min, suc}
+use Prim.Native.Nat.{ℕ, _+_, _*_, _-_, _≤_, min, suc}
 use lib.Dec.{eqb}
 use lib.ListN.{length}
-use Rattle.apportion.specs.Places.{sumBelow}
+use Rattle.apportion.specs.Places.{sumBelow, oneIf}
 use Rattle.book_words.specs.declared.records.Category.{Category}
 use Rattle.book_words.specs.declared.records.Element.{Element}
 use Rattle.book_words.specs.declared.records.Entry.{Entry}
@@ -13,8 +13,8 @@ use Rattle.book_words.specs.declared.totals.Amounts.{Amounts}
 use Rattle.book_words.specs.declared.totals.Sums.{Sums}
 use Rattle.book_words.specs.Book.{bookLength, categories, mostCategories, categoryAt, categoryOf}
 use Rattle.book_words.specs.Book.{entries, mostEntries, entryAt, entryOf, elements, mostElements, elementAt}
-use Rattle.book_words.specs.Measures.{between, massActivity}
-use Rattle.book_words.specs.Soundness.{allBelow, headerFine, categoryFine, entryFine, elementFine, sumsFine, sharesFine}
+use Rattle.book_words.specs.Measures.{between, standardActivity}
+use Rattle.book_words.specs.Soundness.{allBelow, headerFine, categoryFine, entryFine, elementFine, passengersFine, sumsFine, sharesFine}
 use Rattle.book_words.specs.declared.totals.Side.{Side}
 use Rattle.book_words.specs.declared.totals.Side.the-variants.{Operation as operation, Provision as provision}
 use Rattle.book_words.specs.Totals.{mostEmissions, quotedShare, unstruck, emitted}
@@ -48,10 +48,10 @@ abbrev pub Limited : List ℕ → Type 0
 Limited ws = (side : Side) → emitted ws side ≤ mostEmissions
 
 -- the lists that the test looks through, in the order in which `sound` names them: 0 the header, 1 categories, 2 entries,
--- 3 elements, 4 the sums, 5 closings. The header and the sums are one record each
+-- 3 elements, 4 their passengers, 5 the sums, 6 closings. The header, the passengers and the sums are one record each
 abbrev pub countIn : List ℕ → ℕ → ℕ
 countIn ws list =
-    cond (eqb list 1 || eqb list 5) (categories ws) (cond (eqb list 2) (entries ws) (cond (eqb list 3) (elements ws) 1))
+    cond (eqb list 1 || eqb list 6) (categories ws) (cond (eqb list 2) (entries ws) (cond (eqb list 3) (elements ws) 1))
 
 abbrev pub recordFine : List ℕ → ℕ → ℕ → Bool
 recordFine ws list place =
@@ -59,11 +59,16 @@ recordFine ws list place =
     (cond (eqb list 1) (categoryFine (categoryAt ws place))
     (cond (eqb list 2) (entryFine ws (entryAt ws place))
     (cond (eqb list 3) (elementFine ws (elementAt ws place))
-    (cond (eqb list 4) (sumsFine ws) (sharesFine ws place)))))
+    (cond (eqb list 4) (passengersFine ws)
+    (cond (eqb list 5) (sumsFine ws) (sharesFine ws place))))))
 
 -- every record of a list keeps its rules
 unfoldable pub listFine : List ℕ → ℕ → Bool
 listFine ws list = allBelow (countIn ws list) (recordFine ws list)
+
+-- the word by which the passengers of a category are remembered, weighed ones apart from the others
+abbrev pub wordOf : ℕ → Bool → ℕ
+wordOf category weighed = 2 * category + oneIf weighed
 
 -- an amount of this side, and two amounts by their sides
 abbrev pub sideOf : Side → Amounts → ℕ
@@ -85,7 +90,7 @@ sumsBelow ws entry element =
     record {
       operation = emittedBelow ws entry element operation;
       provision = emittedBelow ws entry element provision;
-      activity = sumBelow element (λ p. massActivity (elementAt ws p));
+      activity = sumBelow element (λ p. standardActivity (elementAt ws p));
     }
 
 -- the record of this number, or that of no words, zeros, where there is none

@@ -6,9 +6,9 @@ use borrow.Author.Tests.{leb-false, not-false}
 use Rattle.apportion.specs.Inner.Grounds.{groundsBefore}
 use Rattle.book_words.specs.Book.{addElement, elements, mostElements, categories, categoryOf}
 use Rattle.book_words.specs.Totals.{withElement}
-use Rattle.book_words.specs.Measures.{between, isChain, isCode, isAmount, isDistanceIn}
+use Rattle.book_words.specs.Measures.{between, isChain, isCode}
 use Rattle.book_words.specs.declared.records.Category.{Category}
-use Rattle.book.specs.Calls.{enrolGrounds, enrolRefusal, enrolReply, enrolBook, enrolledElement}
+use Rattle.book.specs.Calls.{enrolGrounds, enrolInRange, enrolRefusal, enrolReply, enrolBook, enrolledElement}
 use Rattle.apportion.proofs.Grounds.{decided-before, none-holds}
 use Rattle.book_words.proofs.Booleans.{both}
 use Rattle.book_words.proofs.NumberedRecords.{category-there}
@@ -63,10 +63,8 @@ enrolled-requires c κs =
     let e = start test .args .e in
     let none = passed test in
     let known = both (isChain (e .chain)) (isCode (e .code)) (not-false (isChain (e .chain) && isCode (e .code)) (none 3)) in
-    let amount = isAmount (e .code) (e .amount) in
-    let distance = isDistanceIn (categoryOf (start test .args .book .now) (e .category) .kind) (e .distance) in
-    let measured = both amount distance (not-false (amount && distance) (none 7)) in
-    (known .1, (measured .0, ap (λ (x : Category). isDistanceIn (x .kind) (e .distance)) (there read) ∙ measured .1))
+    let category = categoryOf (start test .args .book .now) (e .category) in
+    (known .1, ap (λ (x : Category). enrolInRange x e) (there read) ∙ not-false (enrolInRange category e) (none 7))
 
 admit-element-requires : tie.Need-admit-element-requires
 admit-element-requires c κs =

@@ -2,6 +2,7 @@
 use native.Mathlib.Omega.{arith}
 use borrow.Author.Needs.{needs}
 use mathlib.Core.List.{[]}
+use mathlib.Core.Path.{_∙_}
 use Rattle.apportion.specs.Inner.Grounds.{groundsBefore}
 use Rattle.book.specs.Calls.{enrolGroundsIn}
 use Rattle.apportion.proofs.Grounds.{groundsAfter}
@@ -28,11 +29,11 @@ is-code-requires c κs = search needs
 unsuited-requires : tie.Need-unsuited-requires
 unsuited-requires c κs = search needs
 
-is-amount-requires : tie.Need-is-amount-requires
-is-amount-requires c κs = search needs
+mixes-requires : tie.Need-mixes-requires
+mixes-requires c κs = search needs
 
-is-distance-in-requires : tie.Need-is-distance-in-requires
-is-distance-in-requires c κs = search needs
+enrol-in-range-requires : tie.Need-enrol-in-range-requires
+enrol-in-range-requires c κs = search needs
 
 slice-aggregate-first-of : tie.Need-slice-aggregate-first-of
 slice-aggregate-first-of c = search needs
@@ -45,11 +46,22 @@ first-of-requires c κs = search needs
 
 returns : tie.Need-returns
 returns c =
-    let read = c .before .before .before .before .before .before .before .before .before .before .before in
+    let tested = c .before .before .before in
+    let unsuited = tested .before .before in
+    let code = unsuited .before .before in
+    let read = code .before .before .before .before in
     let s = read .before .before .before .before in
     let ws = s .args .book .now in
     let e = s .args .e in
-    category-grounds ws (e .category) [] (λ k. groundsAfter 2 (groundsBefore 10 (enrolGroundsIn ws e k))) (s .pre) (read .numbered-category .ensures) cc
+    category-grounds ws (e .category) [] (λ k. groundsAfter 2 (groundsBefore 10 (enrolGroundsIn ws e k))) (s .pre) (read .numbered-category .ensures)
+    (c .first-of .ensures
+    ∙ rw (
+      code .before .is-chain .ensures,
+      code .is-code .ensures,
+      unsuited .unsuited .ensures,
+      tested .before .mixes .ensures,
+      tested .enrol-in-range .ensures,
+    ))
 
 pub refusal-number-spec : {M : Type 1} → statement M
 refusal-number-spec =
@@ -61,8 +73,8 @@ refusal-number-spec =
     is-chain-requires
     is-code-requires
     unsuited-requires
-    is-amount-requires
-    is-distance-in-requires
+    mixes-requires
+    enrol-in-range-requires
     slice-aggregate-first-of
     slice-aggregate-first-of-2
     first-of-requires

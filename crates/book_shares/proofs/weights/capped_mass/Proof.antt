@@ -10,6 +10,9 @@ use Rattle.book_shares.proofs.weights.capped_mass.Tie as tie
 receives-requires : tie.Need-receives-requires
 receives-requires c κs = search needs
 
+mass-per-head-requires : tie.Need-mass-per-head-requires
+mass-per-head-requires c κs = search needs
+
 multiply-requires : tie.Need-multiply-requires
 multiply-requires c κs = search needs
 
@@ -18,13 +21,18 @@ multiply-requires-2 c κs = search needs
 
 returns : tie.Need-returns
 returns c =
-    let e = c .before .before .before .before .args .e in
-    rw (sym (c .before .before .before .receives .ensures) ∙ c .before .before .if1 .taken)
-    (c .multiply2 .ensures ∙ ap (λ (n : ℕ). capped (n * e .distance)) (c .before .multiply .ensures) ∙ capped-times (e .amount * 100) (e .distance))
+    let mass = c .before .before in
+    let e = mass .before .before .before .args .e in
+    rw (sym (mass .before .before .receives .ensures) ∙ mass .before .if1 .taken)
+    (c .multiply2 .ensures
+    ∙ ap (λ (n : ℕ). capped (n * e .distance)) (c .before .multiply .ensures)
+    ∙ capped-times (e .amount * mass .mass-per-head .result) (e .distance)
+    ∙ ap (λ (n : ℕ). capped (e .amount * n * e .distance)) (mass .mass-per-head .ensures))
 
 returns-2 : tie.Need-returns-2
 returns-2 c = rw (sym (c .before .receives .ensures) ∙ c .if1 .left)
 
 pub capped-mass-spec : {M : Type 1} → statement M
 capped-mass-spec =
-    tie.close (tie.spec receives-requires multiply-requires multiply-requires-2 returns returns-2)
+    tie.close
+    (tie.spec receives-requires mass-per-head-requires multiply-requires multiply-requires-2 returns returns-2)

@@ -35,7 +35,7 @@ returns-3 c = rw (c .before .match .keys3)
 returns-4 : tie.Need-returns-4
 returns-4 c =
     let other = c .match .rest in
-    rw (ne-eqb _ 1 (λ e. other .0 .0 .1 (inl e)), ne-eqb _ 5 (λ e. other .0 .0 .1 (inr e)), ne-eqb _ 2 (other .0 .1), ne-eqb _ 3 (other .1))
+    rw (ne-eqb _ 1 (λ e. other .0 .0 .1 (inl e)), ne-eqb _ 6 (λ e. other .0 .0 .1 (inr e)), ne-eqb _ 2 (other .0 .1), ne-eqb _ 3 (other .1))
 
 pub count-in-spec : {M : Type 1} → statement M
 count-in-spec =

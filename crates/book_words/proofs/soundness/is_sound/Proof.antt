@@ -21,10 +21,10 @@ abbrev μ-loop : tie.MeasureT-loop
 μ-loop book good₀ list count place₀ good place = count - place
 
 abbrev Inv-lists : tie.InvT-lists
-Inv-lists book good₀ list₀ good list = (good ≡ true) × (list ≤ 6) × (allBelow list (listFine book) ≡ true)
+Inv-lists book good₀ list₀ good list = (good ≡ true) × (list ≤ 7) × (allBelow list (listFine book) ≡ true)
 
 abbrev μ-lists : tie.MeasureT-lists
-μ-lists book good₀ list₀ good list = 6 - list
+μ-lists book good₀ list₀ good list = 7 - list
 
 lists-holds : tie.Need-lists-holds Inv-loop μ-loop Inv-lists μ-lists
 lists-holds c = (refl, omega arith, refl)
@@ -68,7 +68,7 @@ lists-again c =
 
 returns : tie.Need-returns Inv-loop μ-loop Inv-lists μ-lists
 returns c =
-    let end : c .before .lists .list ≡ 6 = omega (arith, c .before .lists .inv .1, c .lists-test .left) in
+    let end : c .before .lists .list ≡ 7 = omega (arith, c .before .lists .inv .1, c .lists-test .left) in
     c .before .lists .inv .0 ∙ sym (rw end at (c .before .lists .inv .2)) ∙ lists-sound _
 
 returns-2 : tie.Need-returns-2 Inv-loop μ-loop Inv-lists μ-lists
@@ -82,7 +82,7 @@ returns-2 c =
     let bad = sym (c .before .record-fine .ensures) ∙ not-true (c .before .record-fine .result) (c .if1 .taken) in
     let inside : inner .loop .place < countIn ws list = omega (arith, turn .loop-test .taken, inner .loop .inv .2) in
     let none = every-not (countIn ws list) (recordFine ws list) (inner .loop .place) inside bad in
-    sym (every-not 6 (listFine ws) list (outer .lists-test .taken) none) ∙ lists-sound ws
+    sym (every-not 7 (listFine ws) list (outer .lists-test .taken) none) ∙ lists-sound ws
 
 pub is-sound-spec : {M : Type 1} → statement M
 is-sound-spec =

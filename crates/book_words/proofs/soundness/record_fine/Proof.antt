@@ -4,7 +4,7 @@ use Prim.Native.Nat.{_<_}
 use native.Mathlib.Omega.{arith}
 use borrow.Author.Needs.{needs}
 use Rattle.book_words.specs.Inner.Steps.{CountsWithin}
-use Rattle.book_words.proofs.SoundTests.{past-header, past-sums}
+use Rattle.book_words.proofs.SoundTests.{past-header, past-elements, past-sums}
 use Rattle.book_words.proofs.soundness.record_fine.Statement.{statement}
 use Rattle.book_words.proofs.soundness.record_fine.Tie as tie
 
@@ -33,13 +33,18 @@ element-fine-requires c κs =
     let within = counts (c .before .before) (omega arith) in
     (within, omega (arith, rw (c .match .keys4) at (c .before .before .pre .1 .1), within))
 
+passengers-fine-requires : tie.Need-passengers-fine-requires
+passengers-fine-requires c κs =
+    let s = c .before .before in
+    (counts s (omega arith), past-elements (s .args .book .now) (s .args .list) (s .pre .0) (omega arith))
+
 sums-fine-requires : tie.Need-sums-fine-requires
 sums-fine-requires c κs = counts (c .before .before) (omega arith)
 
 shares-fine-requires : tie.Need-shares-fine-requires
 shares-fine-requires c κs =
     let s = c .before .before in
-    let last : s .args .list ≡ 5 = omega arith in
+    let last : s .args .list ≡ 6 = omega arith in
     let within = counts s (omega arith) in
     (within, (past-sums (s .args .book .now) (s .args .list) (s .pre .0) (omega arith), omega (arith, rw last at (s .pre .1 .1), within)))
 
@@ -56,11 +61,14 @@ returns-4 : tie.Need-returns-4
 returns-4 c = rw (c .before .match .keys4) (c .element-fine .ensures)
 
 returns-5 : tie.Need-returns-5
-returns-5 c = rw (c .before .match .keys5) (c .sums-fine .ensures)
+returns-5 c = rw (c .before .match .keys5) (c .passengers-fine .ensures)
 
 returns-6 : tie.Need-returns-6
-returns-6 c =
-    let last : c .before .before .before .args .list ≡ 5 = omega arith in
+returns-6 c = rw (c .before .match .keys6) (c .sums-fine .ensures)
+
+returns-7 : tie.Need-returns-7
+returns-7 c =
+    let last : c .before .before .before .args .list ≡ 6 = omega arith in
     rw last (c .shares-fine .ensures)
 
 pub record-fine-spec : {M : Type 1} → statement M
@@ -72,6 +80,7 @@ record-fine-spec =
     category-fine-requires
     entry-fine-requires
     element-fine-requires
+    passengers-fine-requires
     sums-fine-requires
     shares-fine-requires
     returns
@@ -79,4 +88,5 @@ record-fine-spec =
     returns-3
     returns-4
     returns-5
-    returns-6)
+    returns-6
+    returns-7)

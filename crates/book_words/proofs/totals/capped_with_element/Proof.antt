@@ -13,8 +13,8 @@ add-requires c κs = search needs
 add-requires-2 : tie.Need-add-requires-2
 add-requires-2 c κs = search needs
 
-capped-mass-activity-requires : tie.Need-capped-mass-activity-requires
-capped-mass-activity-requires c κs = search needs
+capped-standard-activity-requires : tie.Need-capped-standard-activity-requires
+capped-standard-activity-requires c κs = search needs
 
 add-requires-3 : tie.Need-add-requires-3
 add-requires-3 c κs = search needs
@@ -24,7 +24,7 @@ returns c =
     let operation = c .before .before .before in
     rw (
       c .add3 .ensures,
-      c .before .capped-mass-activity .ensures,
+      c .before .capped-standard-activity .ensures,
       c .before .before .add2 .ensures,
       operation .add .ensures,
       operation .before .share-in .ensures,
@@ -38,6 +38,6 @@ capped-with-element-spec =
     share-in-requires
     add-requires
     add-requires-2
-    capped-mass-activity-requires
+    capped-standard-activity-requires
     add-requires-3
     returns)
