@@ -61,8 +61,7 @@ module _ (r : Element) (m : Measured r) where
   -- a passenger's mass is from 1 to 300 kg
   head-mass : isFreight (r .code) ≡ false → (1 ≤ massPerHead (r .«kg_per_head»)) × (massPerHead (r .«kg_per_head») ≤ 300)
   head-mass e =
-      let stated = leb (r .«kg_per_head») 300 in
-      let most = leb-true (r .«kg_per_head») 300 (sym (cond-false (isFreight (r .code)) (eqb (r .«kg_per_head») 0) stated e) ∙ both in-range known-mass (parts .0) .1) in
+      let most = leb-true (r .«kg_per_head») 300 (rw e at (both in-range known-mass (parts .0) .1)) in
       ⊎-elim
       (λ (none : r .«kg_per_head» ≡ 0). rw (eq-eqb (r .«kg_per_head») 0 none) (omega arith, omega arith))
       (λ (some : 0 < r .«kg_per_head»). rw (ne-eqb (r .«kg_per_head») 0 (λ z. omega arith)) (some, most))

@@ -29,3 +29,5 @@ pub mod SumsByKey
 pub mod ShareSums
 -- passengers of a category that are alike
 pub mod Passengers
+-- the walk that tests whether they are
+pub mod PassengerWalk

@@ -2,11 +2,11 @@
 use mathlib.Core.Bool.{Bool, not, true, false, _&&_, cond}
 use mathlib.Core.List.{List}
 use mathlib.Core.Logic.{⊎-elim}
-use mathlib.Core.Path.{_≡_, sym, _∙_, ap}
-use Prim.Native.Nat.{ℕ, _<_, _≤_, _+_, _*_}
+use mathlib.Core.Path.{_≡_, refl, sym, _∙_, ap}
+use Prim.Native.Nat.{ℕ, zero, suc, _<_, _≤_, _+_, _*_}
 use native.Mathlib.Nat.{eq-zero-or-pos}
 use native.Mathlib.Omega.{arith}
-use lib.Dec.{eqb, leb}
+use lib.Dec.{eqb, eqb·suc-zero, leb, leb·suc-zero}
 use borrow.Author.Tests.{not-true, eqb-true, eq-eqb, ne-eqb, lt-leb, le-leb, leb-true}
 use Rattle.book_words.specs.declared.records.Category.{Category}
 use Rattle.book_words.specs.declared.records.Element.{Element}
@@ -134,13 +134,18 @@ pub quoted-suits : (r : Element) → isChain (r .chain) ≡ true → isMass (r .
 unfolding quotedSuits
 quoted-suits r chain a d code none e = rw (chain, eq-eqb (r .code) 0 code, a, d, eq-eqb (r .«kg_per_head») 0 none, eq-eqb (r .activity) (r .amount * r .distance) e)
 
+-- at most 0 is 0
+most-none : (n : ℕ) → leb n 0 ≡ eqb n 0
+most-none zero = refl
+most-none (suc n) = rw (leb·suc-zero, eqb·suc-zero)
+
 -- a quoted element is measured as freight outside a hub, kind 1
 abbrev quoteMeasured : Element → Bool
 quoteMeasured r = isMass (r .amount) && isDistance (r .distance) && eqb (r .«kg_per_head») 0 && eqb (r .activity) (r .amount * r .distance)
 
 pub as-freight : (r : Element) → r .code ≡ 0 → measured 1 r ≡ quoteMeasured r
 unfolding measured activityOf
-as-freight r code = rw code
+as-freight r code = rw (code, most-none (r .«kg_per_head»))
 
 -- the rules of an element of this category, one by one
 pub record Suited (k : Category) (r : Element) : Type 0 where

@@ -81,9 +81,9 @@ isDistanceIn kind distance = cond (isHub kind) (eqb distance 0) (isDistance dist
 abbrev pub isWeighed : ℕ → Bool
 isWeighed kgPerHead = not (eqb kgPerHead 0)
 
--- "ground 7 gains the range, which for freight is 0 alone"
+-- "ground 7 gains the range, which for freight is 0 alone": 0 to 300 for passengers
 abbrev pub isKgPerHead : ℕ → ℕ → Bool
-isKgPerHead code kgPerHead = cond (isFreight code) (eqb kgPerHead 0) (leb kgPerHead 300)
+isKgPerHead code kgPerHead = leb kgPerHead (cond (isFreight code) 0 300)
 
 -- "intensity 0 to 10^9"
 abbrev pub isIntensity : ℕ → Bool

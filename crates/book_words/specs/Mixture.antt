@@ -13,14 +13,17 @@ abbrev pub someBelow : ℕ → (ℕ → Bool) → Bool
 someBelow zero test = false
 someBelow (suc n) test = someBelow n test || test n
 
--- a passenger element in the category of this number, weighed or, where `weighed` is false, not weighed
-abbrev pub isPassengerIn : ℕ → Bool → Element → Bool
-isPassengerIn category weighed e =
-    isPassenger (e .code) && eqb (e .category) category && Bool·beq (isWeighed (e .«kg_per_head»)) weighed
+-- a passenger element in the category of this number
+abbrev pub isPassengerIn : ℕ → Element → Bool
+isPassengerIn category e = isPassenger (e .code) && eqb (e .category) category
 
--- one of the first n elements is such
+-- such an element that is weighed or, where `weighed` is false, one that is not
+abbrev pub isWeighedIn : ℕ → Bool → Element → Bool
+isWeighedIn category weighed e = isPassengerIn category e && Bool·beq (isWeighed (e .«kg_per_head»)) weighed
+
+-- one of the first n elements is so
 unfoldable pub passengerBelow : List ℕ → ℕ → ℕ → Bool → Bool
-passengerBelow ws n category weighed = someBelow n (λ p. isPassengerIn category weighed (elementAt ws p))
+passengerBelow ws n category weighed = someBelow n (λ p. isWeighedIn category weighed (elementAt ws p))
 
 -- an element of this category, code and kg per head that comes behind the first n: it is a passenger element, and an earlier one in
 -- its category is weighed where it is not, or the reverse

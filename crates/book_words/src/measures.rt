@@ -84,14 +84,12 @@ pub fn is_distance_in(kind: u64, distance: u64) -> bool
     is_distance(distance)
 }
 
-// 0 to 300 for passengers, only 0 for freight.
+// 0 to 300 for passengers, 0 alone for freight.
 pub fn is_kg_per_head(code: u64, kg_per_head: u64) -> bool
     ensures { λ r. ⌜ r ≡ isKgPerHead code «kg_per_head» ⌝ }
 {
-    if code <= 2 {
-        return kg_per_head == 0;
-    }
-    kg_per_head <= 300
+    let most = if code <= 2 { 0 } else { 300 };
+    kg_per_head <= most
 }
 
 // The mass of a passenger in kg: as stated, or the standard 100.

@@ -50,9 +50,9 @@ pub fn passengers_fine(book: &[u64]) -> bool
 {
     let count = book[records::ELEMENTS] as usize;
     let mut come = [0u64; 34];
-    let mut place = 0;
-    while place < count {
-        let r = records::read_element(book, place);
+    let mut next = 0;
+    while next < count {
+        let r = records::read_element(book, next);
         if measures::is_passenger(r.code) {
             let other = word_of(r.category, r.kg_per_head == 0);
             if come[other] != 0 {
@@ -61,7 +61,7 @@ pub fn passengers_fine(book: &[u64]) -> bool
             let own = word_of(r.category, r.kg_per_head != 0);
             come[own] = 1;
         }
-        place += 1;
+        next += 1;
     }
     true
 }

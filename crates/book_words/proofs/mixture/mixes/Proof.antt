@@ -1,6 +1,7 @@
--- `book_words::mixture::mixes` meets its contract: up to a place there are no passengers of the category, and the first tells. Assumes nothing.
-use mathlib.Core.Bool.{true, false, not, Bool·beq}
-use mathlib.Core.Path.{_≡_, refl, sym, ap, _∙_}
+-- `book_words::mixture::mixes` meets its contract: up to a place there are no passengers of the category, and the first
+-- tells of all. Assumes nothing.
+use mathlib.Core.Bool.{false, not, Bool·beq}
+use mathlib.Core.Path.{_≡_, sym, ap, _∙_}
 use Prim.Native.Nat.{ℕ, _-_, _≤_, _<_}
 use native.Mathlib.Omega.{arith}
 use lib.Dec.{eqb}
@@ -8,18 +9,16 @@ use borrow.Author.Needs.{needs}
 use borrow.Author.Tests.{not-true, not-false}
 use Rattle.book_words.specs.Book.{elements, elementAt}
 use Rattle.book_words.specs.Inner.Steps.{CountsWithin}
-use Rattle.book_words.specs.Measures.{isPassenger}
-use Rattle.book_words.specs.Mixture.{mixes}
+use Rattle.book_words.specs.Mixture.{isPassengerIn, mixes}
 use Rattle.book_words.specs.declared.records.Element.{Element}
-use Rattle.book_words.proofs.Passengers.{inCategory, read-in, none-next, none-mixes, first-mixes}
-use Rattle.book_words.proofs.SoundRecords.{sound-facts}
+use Rattle.book_words.proofs.Passengers.{read-in, none-next, none-mixes, one-mixes}
 use Rattle.book_words.proofs.SoundTests.{sound-counted}
 use Rattle.book_words.proofs.mixture.mixes.Statement.{statement}
 use Rattle.book_words.proofs.mixture.mixes.Tie as tie
 
 abbrev Inv-loop : tie.InvT-loop
 Inv-loop book category code kg-per-head count place₀ place =
-    (place ≤ count) × ((p : ℕ) → p < place → inCategory category (elementAt book p) ≡ false)
+    (place ≤ count) × ((p : ℕ) → p < place → isPassengerIn category (elementAt book p) ≡ false)
 
 abbrev μ-loop : tie.MeasureT-loop
 μ-loop book category code kg-per-head count place₀ place = count - place
@@ -63,8 +62,7 @@ returns-2 c =
     let known = sym (asked .before .is-passenger .ensures) ∙ not-false (asked .before .is-passenger .result) (asked .if1 .left) in
     let here = read-in (s .args .category) (read .read-element .ensures) (test .is-passenger2 .ensures) (c .before .if2 .taken) in
     ap (λ (x : Element). Bool·beq (eqb (x .«kg_per_head») 0) (not (eqb kg 0))) (read .read-element .ensures)
-    ∙ first-mixes ws (s .args .category) (sound-facts ws (s .pre) .unmixed) (l .loop .place) (read .before .loop-test .taken) (l .loop .inv .1) here
-    (s .args .code) kg known
+    ∙ one-mixes ws (s .pre) (s .args .category) (l .loop .place) (read .before .loop-test .taken) here (s .args .code) kg known
 
 add-place : tie.Need-add-place Inv-loop μ-loop
 add-place c = omega (arith, c .before .before .before .before .loop-test .taken, counts (c .before .before .before .before .before))
@@ -79,7 +77,7 @@ loop-again c =
     let l = read .before .before in
     let s = start l in
     let here = read-in (s .args .category) (read .read-element .ensures) (test .is-passenger2 .ensures) (c .if2 .left) in
-    (omega arith, none-next (l .loop .place) (λ p. inCategory (s .args .category) (elementAt (s .args .book .now) p)) (l .loop .inv .1) here)
+    (omega arith, none-next (l .loop .place) (λ p. isPassengerIn (s .args .category) (elementAt (s .args .book .now) p)) (l .loop .inv .1) here)
 
 returns-3 : tie.Need-returns-3 Inv-loop μ-loop
 returns-3 c =

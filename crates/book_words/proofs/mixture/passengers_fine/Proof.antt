@@ -2,7 +2,7 @@
 -- Assumes nothing.
 use mathlib.Core.Bool.{true, not}
 use mathlib.Core.Logic.{⊎-elim}
-use mathlib.Core.Path.{_≡_, refl, sym, ap, _∙_}
+use mathlib.Core.Path.{_≡_, sym, ap, _∙_}
 use Prim.Native.Nat.{_-_, _≤_, _<_}
 use native.Mathlib.Omega.{arith}
 use lib.Dec.{eqb}
@@ -12,17 +12,17 @@ use Rattle.book_words.specs.Measures.{isPassenger}
 use Rattle.book_words.specs.declared.records.Element.{Element}
 use Rattle.book_words.specs.Soundness.{elementFine, elementsFine}
 use Rattle.book_words.proofs.EveryPlace.{every-at}
-use Rattle.book_words.proofs.Passengers.{Remembered, remembered-start, remembered-freight, remembered-mixed, remembered-passenger, remembered-done, word-most}
+use Rattle.book_words.proofs.PassengerWalk.{Remembered, remembered-start, remembered-freight, remembered-mixed, remembered-passenger, remembered-done, word-most}
 use Rattle.book_words.proofs.RecordRules.{element-category}
 use Rattle.book_words.proofs.mixture.passengers_fine.Statement.{statement}
 use Rattle.book_words.proofs.mixture.passengers_fine.Tie as tie
 
 abbrev Inv-loop : tie.InvT-loop
-Inv-loop book count come₀ place₀ come place =
-    Remembered book place come
+Inv-loop book count come₀ next₀ come next =
+    Remembered book next come
 
 abbrev μ-loop : tie.MeasureT-loop
-μ-loop book count come₀ place₀ come place = count - place
+μ-loop book count come₀ next₀ come next = count - next
 
 abbrev start : tie.At-loop Inv-loop μ-loop → tie.Start Inv-loop μ-loop
 start l = l .before .before .before
@@ -34,7 +34,7 @@ within c =
     let read = c .before in
     let s = start (read .before .before) in
     let ws = s .args .book .now in
-    let fine = every-at (elements ws) (λ p. elementFine ws (elementAt ws p)) (s .pre .1) (read .before .before .loop .place) (read .before .loop-test .taken) in
+    let fine = every-at (elements ws) (λ p. elementFine ws (elementAt ws p)) (s .pre .1) (read .before .before .loop .next) (read .before .loop-test .taken) in
     omega (arith, ap (λ (x : Element). x .category) (read .read-element .ensures), element-category ws _ fine, s .pre .0)
 
 -- it is a passenger element
@@ -91,8 +91,8 @@ mul-come c = omega (arith, own-inside c)
 array-write-come : tie.Need-array-write-come Inv-loop μ-loop
 array-write-come c = own-inside c
 
-add-place : tie.Need-add-place Inv-loop μ-loop
-add-place c = search needs
+add-next : tie.Need-add-next Inv-loop μ-loop
+add-next c = search needs
 
 loop-less : tie.Need-loop-less Inv-loop μ-loop
 loop-less c = omega arith
@@ -130,7 +130,7 @@ passengers-fine-spec =
     word-of-requires-2
     mul-come
     array-write-come
-    add-place
+    add-next
     loop-less
     loop-again
     returns-2)
