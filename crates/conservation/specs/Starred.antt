@@ -68,6 +68,18 @@ enrolCall chain code amount kgPerHead =
     Enrol
     (record { category = 1; chain = chain; code = code; amount = amount; distance = 1; «kg_per_head» = kgPerHead })
 
+-- "Kind 3, A 9, freight activity 100, one head each of codes 100 and 400 over 1 m", A 27 on provision, heads of this mass
+abbrev sharedVoyage : ℕ → Case
+sharedVoyage kgPerHead =
+    callsMade
+    (Open 3
+    ∷ postCall 0 9 1 3
+    ∷ enrolCall 1 0 100 0
+    ∷ enrolCall 2 100 1 kgPerHead
+    ∷ enrolCall 3 400 1 kgPerHead
+    ∷ Close 1
+    ∷ [])
+
 -- a quote for chain 1: adjust, mass, distance, operation intensity, provision intensity
 abbrev quoteCall : ℕ → ℕ → ℕ → ℕ → ℕ → Call
 quoteCall adjust mass distance operationIntensity provisionIntensity =
@@ -93,31 +105,11 @@ starred =
     ∷ divisionRow 0 (5 ∷ []) (0 ∷ [])
     -- "*Kind 3, A 9, freight activity 100, one head each of codes 100 and 400 over 1 m: 3, 1, 5."
     -- Provision: A 27 over F 100 and P 200 is 9 and 18; 18 over 100 and 400 is 3 and 14, and the unit left over goes to the first
-    ∷ row
-    (callsMade
-    (Open 3
-    ∷ postCall 0 9 1 3
-    ∷ enrolCall 1 0 100 0
-    ∷ enrolCall 2 100 1 0
-    ∷ enrolCall 3 400 1 0
-    ∷ Close 1
-    ∷ []))
-    (3 ∷ 1 ∷ 5 ∷ [])
-    (9 ∷ 4 ∷ 14 ∷ [])
-    -- The same with heads of 50 kg. A 9 over F 100 and P 100 is 5 and 4, the unit left over to the first; 4 over 100 and 400 is 0 and 3,
-    -- and the unit left over goes to the first, of the larger remainder.
+    ∷ row (sharedVoyage 0) (3 ∷ 1 ∷ 5 ∷ []) (9 ∷ 4 ∷ 14 ∷ [])
+    -- The same with heads of 50 kg, a number of request (ii). A 9 over F 100 and P 100 is 4 and 4, and the unit left over goes to the
+    -- first; 4 over 100 and 400 is 0 and 3, and the unit left over goes to the first, which has the larger remainder.
     -- Provision: A 27 is 14 and 13; 13 over 100 and 400 is 2 and 10, and the unit left over goes to the first
-    ∷ row
-    (callsMade
-    (Open 3
-    ∷ postCall 0 9 1 3
-    ∷ enrolCall 1 0 100 0
-    ∷ enrolCall 2 100 1 50
-    ∷ enrolCall 3 400 1 50
-    ∷ Close 1
-    ∷ []))
-    (5 ∷ 1 ∷ 3 ∷ [])
-    (14 ∷ 3 ∷ 10 ∷ [])
+    ∷ row (sharedVoyage 50) (5 ∷ 1 ∷ 3 ∷ []) (14 ∷ 3 ∷ 10 ∷ [])
     -- "*A 8, B1 5, ambient 100, chilled 300: 2 and 11."
     -- Provision: A 16 over 100 and 300 is 4 and 12, and B1 5 is the chilled element's
     ∷ row
