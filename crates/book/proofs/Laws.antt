@@ -19,6 +19,7 @@ use Rattle.book_words.specs.Book.{categoryOf, entryAt, elementAt, isClosed}
 use Rattle.book_words.specs.Measures.{between, isKind, isGroup, isChain, isCode, isAdjust}
 use Rattle.book_words.specs.Soundness.{sound, categoryFine, elementFine}
 use Rattle.book_words.specs.declared.totals.Side.{Side}
+use Rattle.book_words.specs.declared.totals.Side.the-variants.{Operation as operation, Provision as provision}
 use Rattle.book_words.specs.Totals.{allUnstruck, sharesOf, activities, shareOf, sumsOf, withEntry, withElement, withinLimits}
 use Rattle.book_words.specs.declared.records.Element.{Element}
 use Rattle.book_shares.specs.Closing.{closeRefusal, closeBook}
