@@ -28,7 +28,7 @@ fn receives(recipients: Recipients, code: u64) -> bool
 {
     match recipients {
         Recipients::Freight => code <= 2,
-        Recipients::Passengers => (100 <= code) & (code <= 1000),
+        Recipients::Passengers => book_words::is_passenger(code),
         Recipients::Group(group) => code == group,
     }
 }

@@ -12,7 +12,7 @@ use Rattle.apportion.proofs.Sums.{order, below-or-not}
 use Rattle.book_words.specs.declared.records.Element.{Element}
 use Rattle.book_words.specs.Book.{elements, elementAt, withShares}
 use Rattle.book_words.specs.Measures.{isPassenger, isWeighed}
-use Rattle.book_words.specs.Mixture.{someBelow, isPassengerIn, isWeighedIn, passengerBelow, mixes, mixed}
+use Rattle.book_words.specs.Mixture.{someBelow, isPassengerIn, isSuchPassenger, passengerBelow, mixes, mixed}
 use Rattle.book_words.specs.Soundness.{sound}
 use Rattle.book_words.proofs.Booleans.{both, and-both, and-false}
 use Rattle.book_words.proofs.SoundRecords.{sound-facts}
@@ -57,8 +57,8 @@ module _ (ws ws′ : List ℕ) (n : ℕ) where
     passengers-kept : (k : ℕ) → k ≤ n → (category : ℕ) (weighed : Bool) → passengerBelow ws′ k category weighed ≡ passengerBelow ws k category weighed
     unfolding passengerBelow
     passengers-kept k h category weighed =
-        some-cong k (λ p. isWeighedIn category weighed (elementAt ws′ p)) (λ p. isWeighedIn category weighed (elementAt ws p))
-        (λ p i. ap (isWeighedIn category weighed) (same p (omega arith)))
+        some-cong k (λ p. isSuchPassenger category weighed (elementAt ws′ p)) (λ p. isSuchPassenger category weighed (elementAt ws p))
+        (λ p i. ap (isSuchPassenger category weighed) (same p (omega arith)))
 
     pub mixes-kept : (k : ℕ) → k ≤ n → (category code kgPerHead : ℕ) → mixes ws′ k category code kgPerHead ≡ mixes ws k category code kgPerHead
     unfolding mixes
@@ -69,7 +69,7 @@ module _ (ws ws′ : List ℕ) (n : ℕ) where
         ap (λ (e : Element). mixes ws′ k (e .category) (e .code) (e .«kg_per_head»)) (same k h)
         ∙ mixes-kept k (omega arith) (elementAt ws k .category) (elementAt ws k .code) (elementAt ws k .«kg_per_head»)
 
--- the two tests of whether elements are weighed, as the code has them
+-- two that are weighed, or not, alike
 alike : (a b : Bool) → Bool·beq a b ≡ true → a ≡ b
 alike true true e = refl
 alike false false e = refl
@@ -82,18 +82,18 @@ unlike false false e = absurd (true≢false e)
 unlike true false e = refl
 unlike false true e = refl
 
-weighed-tested : (a b : Bool) → Bool·beq (not a) (not (not b)) ≡ Bool·beq a (not b)
-weighed-tested true true = refl
-weighed-tested true false = refl
-weighed-tested false true = refl
-weighed-tested false false = refl
+not-alike : (a b : Bool) → Bool·beq a (not b) ≡ not (Bool·beq a b)
+not-alike true true = refl
+not-alike true false = refl
+not-alike false true = refl
+not-alike false false = refl
 
 -- where none of the first n elements is of the category's passengers, none mixes behind them
 pub none-mixes : (ws : List ℕ) (category n code kgPerHead : ℕ) → ((p : ℕ) → p < n → isPassengerIn category (elementAt ws p) ≡ false) → mixes ws n category code kgPerHead ≡ false
 unfolding mixes passengerBelow
 none-mixes ws category n code kgPerHead none =
     and-false (isPassenger code) _
-    (some-none n (λ p. isWeighedIn category (not (isWeighed kgPerHead)) (elementAt ws p)) (λ p h. rw (none p h)))
+    (some-none n (λ p. isSuchPassenger category (not (isWeighed kgPerHead)) (elementAt ws p)) (λ p h. rw (none p h)))
 
 -- in a sound book the passengers of a category are all weighed, or all not
 module _ (ws : List ℕ) (fine : sound ws ≡ true) (category : ℕ) where
@@ -109,7 +109,7 @@ module _ (ws : List ℕ) (fine : sound ws ≡ true) (category : ℕ) where
       let r = elementAt ws q in
       let here = both (isPassenger (r .code)) (eqb (r .category) category) is-q in
       let earlier = and-both (isPassengerIn category (elementAt ws p)) _ is-p (unlike (weighedAt p) (weighedAt q) other) in
-      let below = some-here q (λ k. isWeighedIn category (not (weighedAt q)) (elementAt ws k)) p later earlier in
+      let below = some-here q (λ k. isSuchPassenger category (not (weighedAt q)) (elementAt ws k)) p later earlier in
       and-both (isPassenger (r .code)) (passengerBelow ws q (r .category) (not (weighedAt q))) (here .0)
       (ap (λ (c : ℕ). passengerBelow ws q c (not (weighedAt q))) (eqb-true (r .category) category (here .1)) ∙ below)
 
@@ -138,16 +138,15 @@ module _ (ws : List ℕ) (fine : sound ws ≡ true) (category : ℕ) where
     one-tells weighed = go (Bool·beq (weighedAt place) weighed) refl
       where
         go : (b : Bool) → Bool·beq (weighedAt place) weighed ≡ b → passengerBelow ws (elements ws) category weighed ≡ Bool·beq (weighedAt place) weighed
-        go true e = rw e (some-here (elements ws) (λ p. isWeighedIn category weighed (elementAt ws p)) place h (and-both _ _ is e))
-        go false e = rw e (some-none (elements ws) (λ p. isWeighedIn category weighed (elementAt ws p)) (λ q i. other q i (isPassengerIn category (elementAt ws q)) refl))
+        go true e = rw e (some-here (elements ws) (λ p. isSuchPassenger category weighed (elementAt ws p)) place h (and-both _ _ is e))
+        go false e = rw e (some-none (elements ws) (λ p. isSuchPassenger category weighed (elementAt ws p)) (λ q i. other q i (isPassengerIn category (elementAt ws q)) refl))
           where
-            other : (q : ℕ) → q < elements ws → (b : Bool) → isPassengerIn category (elementAt ws q) ≡ b → isWeighedIn category weighed (elementAt ws q) ≡ false
+            other : (q : ℕ) → q < elements ws → (b : Bool) → isPassengerIn category (elementAt ws q) ≡ b → isSuchPassenger category weighed (elementAt ws q) ≡ false
             other q i false away = rw away
             other q i true here =
                 and-false (isPassengerIn category (elementAt ws q)) _ (ap (λ (w : Bool). Bool·beq w weighed) (passengers-alike q place i h here is) ∙ e)
 
     pub one-mixes : (code kgPerHead : ℕ) → isPassenger code ≡ true
-        → Bool·beq (eqb (elementAt ws place .«kg_per_head») 0) (not (eqb kgPerHead 0)) ≡ mixes ws (elements ws) category code kgPerHead
+        → not (Bool·beq (weighedAt place) (isWeighed kgPerHead)) ≡ mixes ws (elements ws) category code kgPerHead
     unfolding mixes
-    one-mixes code kgPerHead known =
-        rw known (sym (one-tells (not (isWeighed kgPerHead)) ∙ weighed-tested (eqb (elementAt ws place .«kg_per_head») 0) (eqb kgPerHead 0)))
+    one-mixes code kgPerHead known = rw known (sym (one-tells (not (isWeighed kgPerHead)) ∙ not-alike (weighedAt place) (isWeighed kgPerHead)))

@@ -89,7 +89,8 @@ module _ (ws : List ℕ) where
   pub sound-sums : sound ws ≡ true → withinLimits (sumsOf ws) ≡ true
   sound-sums e = sums-limits (sound-parts e .sums)
 
-  -- past the header the counts are within their limits, past the elements each keeps its rules, and past the sums they are within their limits too
+  -- past the header the counts are within their limits, past the elements each of these keeps its rules, and past the sums these are
+  -- within theirs
   module _ (list : ℕ) (before : allBelow list (listFine ws) ≡ true) where
     pub past-header : 0 < list → CountsWithin ws
     unfolding listFine

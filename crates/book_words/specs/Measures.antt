@@ -95,8 +95,11 @@ activityOf kind code amount distance =
     cond (isFreight code) (cond (isHub kind) amount (amount * distance)) (amount * code * distance)
 
 -- the mass of a passenger, in kg: "the stated mass", or "the standard 100"
+abbrev pub standardMass : ℕ
+standardMass = 100
+
 abbrev pub massPerHead : ℕ → ℕ
-massPerHead kgPerHead = cond (isWeighed kgPerHead) kgPerHead 100
+massPerHead kgPerHead = cond (isWeighed kgPerHead) kgPerHead standardMass
 
 -- passengers by mass: "head count × 100 × distance (100 kg per passenger, Annex A.4.2)", where "P uses the stated mass, and so does
 -- the exact share"
@@ -109,7 +112,7 @@ byStatedMass e = headsByMass (e .amount) (e .«kg_per_head») (e .distance)
 
 -- passengers as they count in ground 10, which "still counts 100 per head"
 abbrev pub byStandardMass : Element → ℕ
-byStandardMass e = e .amount * 100 * e .distance
+byStandardMass e = e .amount * standardMass * e .distance
 
 -- an element's activity in ground 10
 unfoldable pub standardActivity : Element → ℕ

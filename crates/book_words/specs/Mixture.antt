@@ -18,12 +18,12 @@ abbrev pub isPassengerIn : ℕ → Element → Bool
 isPassengerIn category e = isPassenger (e .code) && eqb (e .category) category
 
 -- such an element that is weighed or, where `weighed` is false, one that is not
-abbrev pub isWeighedIn : ℕ → Bool → Element → Bool
-isWeighedIn category weighed e = isPassengerIn category e && Bool·beq (isWeighed (e .«kg_per_head»)) weighed
+abbrev pub isSuchPassenger : ℕ → Bool → Element → Bool
+isSuchPassenger category weighed e = isPassengerIn category e && Bool·beq (isWeighed (e .«kg_per_head»)) weighed
 
--- one of the first n elements is so
+-- one of the first n elements is such
 unfoldable pub passengerBelow : List ℕ → ℕ → ℕ → Bool → Bool
-passengerBelow ws n category weighed = someBelow n (λ p. isWeighedIn category weighed (elementAt ws p))
+passengerBelow ws n category weighed = someBelow n (λ p. isSuchPassenger category weighed (elementAt ws p))
 
 -- an element of this category, code and kg per head that comes behind the first n: it is a passenger element, and an earlier one in
 -- its category is weighed where it is not, or the reverse

@@ -48,7 +48,7 @@ emitted ws side = allUnstruck ws side + sharesOf ws 0 side
 abbrev pub mostEmissions : ℕ
 mostEmissions = 1_000_000_000_000_000_000
 
--- ground 10: "activity over all elements (hubs and quotes too, passengers as in P)"
+-- ground 10: "activity over all elements (hubs and quotes too, passengers as in P)"; of passengers it "still counts 100 per head"
 unfoldable pub activities : List ℕ → ℕ
 activities ws = sumBelow (elements ws) (λ p. standardActivity (elementAt ws p))
 

@@ -1,11 +1,14 @@
 // Codes, ranges and activities.
 ghost use mathlib.Core.Path.{_≡_};
-ghost use Rattle.book_words.specs.Measures.{isKind, isChain, isCode, isPassenger, unsuited, unsuitedGroup, isMass, isHeads, isAmount, isDistance, isDistanceIn, isKgPerHead, massPerHead, activityOf};
+ghost use Rattle.book_words.specs.Measures.{isKind, isChain, isCode, isPassenger, unsuited, unsuitedGroup, isMass, isHeads, isAmount, isDistance, isDistanceIn, isWeighed, isKgPerHead, massPerHead, activityOf};
 ghost use Rattle.book_words.specs.Inner.Steps.{capped};
 use crate::totals;
 
 // The last chain; the first is 1.
 pub const MOST_CHAINS: u64 = 10_000;
+
+// The mass of a passenger that is not weighed, in kg.
+pub const STANDARD_MASS: u64 = 100;
 
 pub fn is_kind(kind: u64) -> bool
     ensures { λ r. ⌜ r ≡ isKind kind ⌝ }
@@ -22,7 +25,7 @@ pub fn is_chain(chain: u64) -> bool
 pub fn is_code(code: u64) -> bool
     ensures { λ r. ⌜ r ≡ isCode code ⌝ }
 {
-    (code <= 2) | ((100 <= code) & (code <= 1000))
+    (code <= 2) | is_passenger(code)
 }
 
 // A passenger class.
@@ -36,7 +39,7 @@ pub fn is_passenger(code: u64) -> bool
 pub fn unsuited(kind: u64, code: u64) -> bool
     ensures { λ r. ⌜ r ≡ unsuited kind code ⌝ }
 {
-    ((code <= 2) & (kind == 2)) | (((100 <= code) & (code <= 1000)) & ((kind == 1) | (kind == 4)))
+    ((code <= 2) & (kind == 2)) | (is_passenger(code) & ((kind == 1) | (kind == 4)))
 }
 
 // Group 1 or 2 in kind 2.
@@ -92,14 +95,21 @@ pub fn is_kg_per_head(code: u64, kg_per_head: u64) -> bool
     kg_per_head <= most
 }
 
-// The mass of a passenger in kg: as stated, or the standard 100.
+// The kg per head are stated.
+pub fn is_weighed(kg_per_head: u64) -> bool
+    ensures { λ r. ⌜ r ≡ isWeighed «kg_per_head» ⌝ }
+{
+    kg_per_head != 0
+}
+
+// The mass of a passenger in kg: as stated, or the standard one.
 pub fn mass_per_head(kg_per_head: u64) -> u64
     ensures { λ r. ⌜ r ≡ massPerHead «kg_per_head» ⌝ }
 {
-    if kg_per_head == 0 {
-        return 100;
+    if is_weighed(kg_per_head) {
+        return kg_per_head;
     }
-    kg_per_head
+    STANDARD_MASS
 }
 
 // The activity of an amount over a distance, capped.

@@ -11,6 +11,7 @@ ghost use Rattle.book_words.specs.Totals.{unstruck, unstruckOf, shareOf,
 ghost use Rattle.book_words.specs.Inner.Steps.{capped};
 ghost use Rattle.book_words.specs.Totals.{sumsOf, withEntry, withElement, withinLimits};
 ghost use Rattle.book_words.specs.Inner.Steps.{capSums};
+use crate::measures;
 use crate::records;
 use crate::records::Element;
 use crate::records::Entry;
@@ -157,14 +158,14 @@ pub fn capped_shares_of(book: &[u64], category: u64) -> Amounts
     sum
 }
 
-// An element's activity in ground 10, passengers by 100 kg.
+// An element's activity in ground 10, passengers by the standard mass.
 fn capped_standard_activity(e: Element) -> u64
     ensures { λ r. ⌜ r ≡ capped (standardActivity e) ⌝ }
 {
     if e.code <= 2 {
         return add(0, e.activity);
     }
-    multiply(multiply(e.amount, 100), e.distance)
+    multiply(multiply(e.amount, measures::STANDARD_MASS), e.distance)
 }
 
 // The sums over the entries alone, each capped.

@@ -66,9 +66,13 @@ recordFine ws list place =
 unfoldable pub listFine : List ℕ → ℕ → Bool
 listFine ws list = allBelow (countIn ws list) (recordFine ws list)
 
--- the word by which the passengers of a category are remembered, weighed ones apart from the others
-abbrev pub wordOf : ℕ → Bool → ℕ
-wordOf category weighed = 2 * category + oneIf weighed
+-- where it is remembered that passengers of a category have been seen, weighed ones apart from the others: two places for each
+-- number from 0 on
+abbrev pub seenAt : ℕ → Bool → ℕ
+seenAt category weighed = 2 * category + oneIf weighed
+
+abbrev pub seenPlaces : ℕ
+seenPlaces = 2 * (mostCategories + 1)
 
 -- an amount of this side, and two amounts by their sides
 abbrev pub sideOf : Side → Amounts → ℕ

@@ -1,14 +1,14 @@
 -- `book_words::mixture::mixes` meets its contract: up to a place there are no passengers of the category, and the first
 -- tells of all. Assumes nothing.
-use mathlib.Core.Bool.{false, not, Bool·beq}
-use mathlib.Core.Path.{_≡_, sym, ap, _∙_}
+use mathlib.Core.Bool.{Bool, false, not, Bool·beq}
+use mathlib.Core.Path.{_≡_, sym, ap, ap₂, _∙_}
 use Prim.Native.Nat.{ℕ, _-_, _≤_, _<_}
 use native.Mathlib.Omega.{arith}
-use lib.Dec.{eqb}
 use borrow.Author.Needs.{needs}
 use borrow.Author.Tests.{not-true, not-false}
 use Rattle.book_words.specs.Book.{elements, elementAt}
 use Rattle.book_words.specs.Inner.Steps.{CountsWithin}
+use Rattle.book_words.specs.Measures.{isWeighed}
 use Rattle.book_words.specs.Mixture.{isPassengerIn, mixes}
 use Rattle.book_words.specs.declared.records.Element.{Element}
 use Rattle.book_words.proofs.Passengers.{read-in, none-next, none-mixes, one-mixes}
@@ -50,19 +50,27 @@ read-element-requires c κs = (counts (c .before) .long, omega (arith, c .loop-t
 is-passenger-requires-2 : tie.Need-is-passenger-requires-2 Inv-loop μ-loop
 is-passenger-requires-2 c κs = search needs
 
+is-weighed-requires : tie.Need-is-weighed-requires Inv-loop μ-loop
+is-weighed-requires c κs = search needs
+
+is-weighed-requires-2 : tie.Need-is-weighed-requires-2 Inv-loop μ-loop
+is-weighed-requires-2 c κs = search needs
+
 returns-2 : tie.Need-returns-2 Inv-loop μ-loop
 returns-2 c =
-    let test = c .before .before .before in
+    let found = c .before .before in
+    let test = found .before .before in
     let read = test .before in
     let l = read .before .before in
     let s = start l in
     let ws = s .args .book .now in
-    let kg = s .args .kg-per-head in
     let asked = l .before .before in
     let known = sym (asked .before .is-passenger .ensures) ∙ not-false (asked .before .is-passenger .result) (asked .if1 .left) in
-    let here = read-in (s .args .category) (read .read-element .ensures) (test .is-passenger2 .ensures) (c .before .if2 .taken) in
-    ap (λ (x : Element). Bool·beq (eqb (x .«kg_per_head») 0) (not (eqb kg 0))) (read .read-element .ensures)
-    ∙ one-mixes ws (s .pre) (s .args .category) (l .loop .place) (read .before .loop-test .taken) here (s .args .code) kg known
+    let here = read-in (s .args .category) (read .read-element .ensures) (test .is-passenger2 .ensures) (found .if2 .taken) in
+    ap₂ (λ (a b : Bool). not (Bool·beq a b))
+    (c .before .is-weighed .ensures ∙ ap (λ (x : Element). isWeighed (x .«kg_per_head»)) (read .read-element .ensures))
+    (c .is-weighed2 .ensures)
+    ∙ one-mixes ws (s .pre) (s .args .category) (l .loop .place) (read .before .loop-test .taken) here (s .args .code) (s .args .kg-per-head) known
 
 add-place : tie.Need-add-place Inv-loop μ-loop
 add-place c = omega (arith, c .before .before .before .before .loop-test .taken, counts (c .before .before .before .before .before))
@@ -98,6 +106,8 @@ mixes-spec =
     loop-holds
     read-element-requires
     is-passenger-requires-2
+    is-weighed-requires
+    is-weighed-requires-2
     returns-2
     add-place
     loop-less

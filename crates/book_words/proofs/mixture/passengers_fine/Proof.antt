@@ -1,28 +1,27 @@
--- `book_words::mixture::passengers_fine` meets its contract: up to a place no element mixes, and what has come is remembered.
+-- `book_words::mixture::passengers_fine` meets its contract: up to a place no element mixes, and what has been seen is remembered.
 -- Assumes nothing.
 use mathlib.Core.Bool.{true, not}
 use mathlib.Core.Logic.{⊎-elim}
 use mathlib.Core.Path.{_≡_, sym, ap, _∙_}
 use Prim.Native.Nat.{_-_, _≤_, _<_}
 use native.Mathlib.Omega.{arith}
-use lib.Dec.{eqb}
 use borrow.Author.Needs.{needs}
 use Rattle.book_words.specs.Book.{elements, elementAt, mostCategories}
+use Rattle.book_words.specs.Inner.Steps.{seenPlaces}
 use Rattle.book_words.specs.Measures.{isPassenger}
 use Rattle.book_words.specs.declared.records.Element.{Element}
 use Rattle.book_words.specs.Soundness.{elementFine, elementsFine}
 use Rattle.book_words.proofs.EveryPlace.{every-at}
-use Rattle.book_words.proofs.PassengerWalk.{Remembered, remembered-start, remembered-freight, remembered-mixed, remembered-passenger, remembered-done, word-most}
+use Rattle.book_words.proofs.PassengerWalk.{Remembered, remembered-start, remembered-freight, remembered-mixed, remembered-passenger, remembered-done, seen-most}
 use Rattle.book_words.proofs.RecordRules.{element-category}
 use Rattle.book_words.proofs.mixture.passengers_fine.Statement.{statement}
 use Rattle.book_words.proofs.mixture.passengers_fine.Tie as tie
 
 abbrev Inv-loop : tie.InvT-loop
-Inv-loop book count come₀ next₀ come next =
-    Remembered book next come
+Inv-loop book count seen₀ next₀ seen next = Remembered book next seen
 
 abbrev μ-loop : tie.MeasureT-loop
-μ-loop book count come₀ next₀ come next = count - next
+μ-loop book count seen₀ next₀ seen next = count - next
 
 abbrev start : tie.At-loop Inv-loop μ-loop → tie.Start Inv-loop μ-loop
 start l = l .before .before .before
@@ -41,17 +40,21 @@ within c =
 known : (c : tie.After-is-passenger Inv-loop μ-loop) → c .is-passenger .result ≡ true → isPassenger (c .before .read-element .result .code) ≡ true
 known c e = sym (c .is-passenger .ensures) ∙ e
 
-other-inside : (c : tie.After-word-of Inv-loop μ-loop) → c .word-of .result < 34
+other-inside : (c : tie.After-seen-at Inv-loop μ-loop) → c .seen-at .result < seenPlaces
 other-inside c =
     let test = c .before .before .before in
-    let r = test .before .read-element .result in
-    omega (arith, c .word-of .ensures, word-most (r .category) (eqb (r .«kg_per_head») 0), within test)
+    omega (
+      arith,
+      c .seen-at .ensures,
+      seen-most (test .before .read-element .result .category) (not (c .before .is-weighed .result)),
+      within test,
+    )
 
-own-inside : (c : tie.After-word-of2 Inv-loop μ-loop) → c .word-of2 .result < 34
+own-inside : (c : tie.After-seen-at2 Inv-loop μ-loop) → c .seen-at2 .result < seenPlaces
 own-inside c =
-    let test = c .before .before .before .before .before .before in
-    let r = test .before .read-element .result in
-    omega (arith, c .word-of2 .ensures, word-most (r .category) (not (eqb (r .«kg_per_head») 0)), within test)
+    let weighed = c .before .before .before in
+    let test = weighed .before .before in
+    omega (arith, c .seen-at2 .ensures, seen-most (test .before .read-element .result .category) (weighed .is-weighed .result), within test)
 
 shared-slice-read-count : tie.Need-shared-slice-read-count Inv-loop μ-loop
 shared-slice-read-count c = search needs
@@ -65,8 +68,11 @@ read-element-requires c κs = search needs
 is-passenger-requires : tie.Need-is-passenger-requires Inv-loop μ-loop
 is-passenger-requires c κs = search needs
 
-word-of-requires : tie.Need-word-of-requires Inv-loop μ-loop
-word-of-requires c κs = within (c .before .before)
+is-weighed-requires : tie.Need-is-weighed-requires Inv-loop μ-loop
+is-weighed-requires c κs = search needs
+
+seen-at-requires : tie.Need-seen-at-requires Inv-loop μ-loop
+seen-at-requires c κs = within (c .before .before)
 
 mul-if2 : tie.Need-mul-if2 Inv-loop μ-loop
 mul-if2 c = omega (arith, other-inside c)
@@ -76,20 +82,20 @@ array-read-if2 c = other-inside c
 
 returns : tie.Need-returns Inv-loop μ-loop
 returns c =
-    let put = c .before in
-    let test = put .before .before .before in
+    let weighed = c .before .before in
+    let test = weighed .before .before in
     let read = test .before in
-    remembered-mixed _ (read .before .before .loop .inv) (read .before .loop-test .taken) (read .read-element .ensures) (known test (put .before .before .if1 .taken)) (within test)
-    (put .word-of .ensures) (c .if2 .taken)
+    remembered-mixed _ (read .before .before .loop .inv) (read .before .loop-test .taken) (read .read-element .ensures)
+    (known test (weighed .before .if1 .taken)) (within test) (weighed .is-weighed .ensures) (c .before .seen-at .ensures) (c .if2 .taken)
 
-word-of-requires-2 : tie.Need-word-of-requires-2 Inv-loop μ-loop
-word-of-requires-2 c κs = within (c .before .before .before .before .before)
+seen-at-requires-2 : tie.Need-seen-at-requires-2 Inv-loop μ-loop
+seen-at-requires-2 c κs = within (c .before .before .before .before)
 
-mul-come : tie.Need-mul-come Inv-loop μ-loop
-mul-come c = omega (arith, own-inside c)
+mul-seen : tie.Need-mul-seen Inv-loop μ-loop
+mul-seen c = omega (arith, own-inside c)
 
-array-write-come : tie.Need-array-write-come Inv-loop μ-loop
-array-write-come c = own-inside c
+array-write-seen : tie.Need-array-write-seen Inv-loop μ-loop
+array-write-seen c = own-inside c
 
 add-next : tie.Need-add-next Inv-loop μ-loop
 add-next c = search needs
@@ -105,8 +111,9 @@ loop-again c =
     let now = read .before .loop-test .taken in
     ⊎-elim
     (λ w.
-    rw (w .6)
-    (remembered-passenger _ (l .loop .inv) now (read .read-element .ensures) (known test (w .0 .taken)) (within test) (w .2 .ensures) (w .3 .left) (w .5 .ensures)))
+    rw (w .5)
+    (remembered-passenger _ (l .loop .inv) now (read .read-element .ensures) (known test (w .0 .taken)) (within test) (w .1 .ensures) (w .2 .ensures) (w .3 .left)
+    (w .4 .ensures)))
     (λ w. rw (w .1) (remembered-freight _ (l .loop .inv) now (read .read-element .ensures) (sym (test .is-passenger .ensures) ∙ w .0 .left)))
     (c .if1 .came)
 
@@ -123,13 +130,14 @@ passengers-fine-spec =
     loop-holds
     read-element-requires
     is-passenger-requires
-    word-of-requires
+    is-weighed-requires
+    seen-at-requires
     mul-if2
     array-read-if2
     returns
-    word-of-requires-2
-    mul-come
-    array-write-come
+    seen-at-requires-2
+    mul-seen
+    array-write-seen
     add-next
     loop-less
     loop-again

@@ -1,4 +1,4 @@
--- `book_words::totals::capped_standard_activity` meets its contract: the activity, or the product as in P, capped. Assumes nothing.
+-- `book_words::totals::capped_standard_activity` meets its contract: the activity, or heads by the standard mass, capped. Assumes nothing.
 use mathlib.Core.Path.{_∙_, ap}
 use native.Mathlib.Nat.{zero-add}
 use borrow.Author.Needs.{needs}
