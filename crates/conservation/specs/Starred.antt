@@ -106,8 +106,9 @@ starred =
     -- "*Kind 3, A 9, freight activity 100, one head each of codes 100 and 400 over 1 m: 3, 1, 5."
     -- Provision: A 27 over F 100 and P 200 is 9 and 18; 18 over 100 and 400 is 3 and 14, and the unit left over goes to the first
     ∷ row (sharedVoyage 0) (3 ∷ 1 ∷ 5 ∷ []) (9 ∷ 4 ∷ 14 ∷ [])
-    -- The same with heads of 50 kg, for request (ii); document 02 has no number of its own. A 9 over F 100 and P 100 is 4 and 4, and the unit left over goes to the
-    -- first; 4 over 100 and 400 is 0 and 3, and the unit left over goes to the first, which has the larger remainder.
+    -- The same with heads of 50 kg, for request (ii); document 02 has no number of its own. A 9 over F 100 and P 100 is 4 and 4, and the
+    -- unit left over goes to the first; 4 over 100 and 400 is 0 and 3, and the unit left over goes to the first, which has the larger
+    -- remainder.
     -- Provision: A 27 is 14 and 13; 13 over 100 and 400 is 2 and 10, and the unit left over goes to the first
     ∷ row (sharedVoyage 50) (5 ∷ 1 ∷ 3 ∷ []) (14 ∷ 3 ∷ 10 ∷ [])
     -- "*A 8, B1 5, ambient 100, chilled 300: 2 and 11."
