@@ -3,18 +3,19 @@ use mathlib.Core.Bool.{Bool, true, false, not, _&&_, _||_, Bool·beq, true≢fal
 use mathlib.Core.List.{List}
 use mathlib.Core.Logic.{⊎-elim, _⊎_}
 use mathlib.Core.Path.{_≡_, refl, sym, ap, ap₂, _∙_}
-use Prim.Native.Nat.{ℕ, zero, suc, _<_, _≤_, _+_}
+use Prim.Native.Nat.{ℕ, zero, suc, _<_, _≤_}
 use native.Mathlib.Nat.{eq-or-lt-of-le}
 use native.Mathlib.Omega.{arith}
 use lib.Dec.{eqb}
-use borrow.Author.Tests.{eqb-true}
-use Rattle.apportion.proofs.Sums.{order, below-or-not}
+use borrow.Author.Tests.{not-true, eqb-true}
+use Rattle.apportion.proofs.Sums.{order}
 use Rattle.book_words.specs.declared.records.Element.{Element}
 use Rattle.book_words.specs.Book.{elements, elementAt, withShares}
 use Rattle.book_words.specs.Measures.{isPassenger, isWeighed}
 use Rattle.book_words.specs.Mixture.{someBelow, isPassengerIn, isSuchPassenger, passengerBelow, mixes, mixed}
-use Rattle.book_words.specs.Soundness.{sound}
+use Rattle.book_words.specs.Soundness.{allBelow, sound}
 use Rattle.book_words.proofs.Booleans.{both, and-both, and-false}
+use Rattle.book_words.proofs.EveryPlace.{every-at}
 use Rattle.book_words.proofs.SoundRecords.{sound-facts}
 
 -- some place below n passes the test, or none does
@@ -33,14 +34,6 @@ some-none (suc n) test all = rw (some-none n test (λ k h. all k (omega arith)),
 some-cong : (n : ℕ) (f g : ℕ → Bool) → ((k : ℕ) → k < n → f k ≡ g k) → someBelow n f ≡ someBelow n g
 some-cong zero f g same = refl
 some-cong (suc n) f g same = ap₂ _||_ (some-cong n f g (λ k h. same k (omega arith))) (same n (omega arith))
-
--- none of the first n passes, and the next does not
-pub none-next : (n : ℕ) (test : ℕ → Bool) → ((k : ℕ) → k < n → test k ≡ false) → test n ≡ false → (k : ℕ) → k < n + 1 → test k ≡ false
-none-next n test none here k h =
-    ⊎-elim
-    (λ (i : k < n). none k i)
-    (λ (i : n ≤ k). let e : k ≡ n = omega arith in ap test e ∙ here)
-    (below-or-not k n)
 
 -- what is no passengers' mixes with nothing
 pub others-mix-not : (ws : List ℕ) (n category code kgPerHead : ℕ) → isPassenger code ≡ false → mixes ws n category code kgPerHead ≡ false
@@ -89,11 +82,13 @@ not-alike false true = refl
 not-alike false false = refl
 
 -- where none of the first n elements is of the category's passengers, none mixes behind them
-pub none-mixes : (ws : List ℕ) (category n code kgPerHead : ℕ) → ((p : ℕ) → p < n → isPassengerIn category (elementAt ws p) ≡ false) → mixes ws n category code kgPerHead ≡ false
+pub none-mixes : (ws : List ℕ) (category n code kgPerHead : ℕ) → allBelow n (λ p. not (isPassengerIn category (elementAt ws p))) ≡ true
+    → mixes ws n category code kgPerHead ≡ false
 unfolding mixes passengerBelow
 none-mixes ws category n code kgPerHead none =
     and-false (isPassenger code) _
-    (some-none n (λ p. isSuchPassenger category (not (isWeighed kgPerHead)) (elementAt ws p)) (λ p h. rw (none p h)))
+    (some-none n (λ p. isSuchPassenger category (not (isWeighed kgPerHead)) (elementAt ws p))
+    (λ p h. rw (not-true (isPassengerIn category (elementAt ws p)) (every-at n (λ q. not (isPassengerIn category (elementAt ws q))) none p h))))
 
 -- in a sound book the passengers of a category are all weighed, or all not
 module _ (ws : List ℕ) (fine : sound ws ≡ true) (category : ℕ) where

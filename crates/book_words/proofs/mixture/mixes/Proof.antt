@@ -1,8 +1,8 @@
 -- `book_words::mixture::mixes` meets its contract: up to a place there are no passengers of the category, and the first
 -- tells of all. Assumes nothing.
-use mathlib.Core.Bool.{Bool, false, not, Bool·beq}
-use mathlib.Core.Path.{_≡_, sym, ap, ap₂, _∙_}
-use Prim.Native.Nat.{ℕ, _-_, _≤_, _<_}
+use mathlib.Core.Bool.{Bool, true, not, Bool·beq}
+use mathlib.Core.Path.{_≡_, refl, sym, ap, ap₂, _∙_}
+use Prim.Native.Nat.{_-_, _≤_}
 use native.Mathlib.Omega.{arith}
 use borrow.Author.Needs.{needs}
 use borrow.Author.Tests.{not-true, not-false}
@@ -10,15 +10,17 @@ use Rattle.book_words.specs.Book.{elements, elementAt}
 use Rattle.book_words.specs.Inner.Steps.{CountsWithin}
 use Rattle.book_words.specs.Measures.{isWeighed}
 use Rattle.book_words.specs.Mixture.{isPassengerIn, mixes}
+use Rattle.book_words.specs.Soundness.{allBelow}
 use Rattle.book_words.specs.declared.records.Element.{Element}
-use Rattle.book_words.proofs.Passengers.{read-in, none-next, none-mixes, one-mixes}
+use Rattle.book_words.proofs.EveryPlace.{every-next}
+use Rattle.book_words.proofs.Passengers.{read-in, none-mixes, one-mixes}
 use Rattle.book_words.proofs.SoundTests.{sound-counted}
 use Rattle.book_words.proofs.mixture.mixes.Statement.{statement}
 use Rattle.book_words.proofs.mixture.mixes.Tie as tie
 
 abbrev Inv-loop : tie.InvT-loop
 Inv-loop book category code kg-per-head count place₀ place =
-    (place ≤ count) × ((p : ℕ) → p < place → isPassengerIn category (elementAt book p) ≡ false)
+    (place ≤ count) × (allBelow place (λ p. not (isPassengerIn category (elementAt book p))) ≡ true)
 
 abbrev μ-loop : tie.MeasureT-loop
 μ-loop book category code kg-per-head count place₀ place = count - place
@@ -42,7 +44,7 @@ shared-slice-read-count c =
     omega (arith, sound-counted (s .args .book .now) (s .pre))
 
 loop-holds : tie.Need-loop-holds Inv-loop μ-loop
-loop-holds c = (omega arith, λ p h. let z : ⊥ = omega arith in absurd z)
+loop-holds c = (omega arith, refl)
 
 read-element-requires : tie.Need-read-element-requires Inv-loop μ-loop
 read-element-requires c κs = (counts (c .before) .long, omega (arith, c .loop-test .taken, counts (c .before)))
@@ -85,14 +87,15 @@ loop-again c =
     let l = read .before .before in
     let s = start l in
     let here = read-in (s .args .category) (read .read-element .ensures) (test .is-passenger2 .ensures) (c .if2 .left) in
-    (omega arith, none-next (l .loop .place) (λ p. isPassengerIn (s .args .category) (elementAt (s .args .book .now) p)) (l .loop .inv .1) here)
+    (omega arith, every-next (l .loop .place) _ (l .loop .inv .1) (ap not here))
 
 returns-3 : tie.Need-returns-3 Inv-loop μ-loop
 returns-3 c =
     let l = c .before in
     let s = start l in
     let ws = s .args .book .now in
-    sym (none-mixes ws (s .args .category) (elements ws) (s .args .code) (s .args .kg-per-head) (λ p h. l .loop .inv .1 p (omega (arith, c .loop-test .left))))
+    let end : l .loop .place ≡ elements ws = omega (arith, l .loop .inv .0, c .loop-test .left) in
+    sym (none-mixes ws (s .args .category) (elements ws) (s .args .code) (s .args .kg-per-head) (rw end at (l .loop .inv .1)))
 
 pub mixes-spec : {M : Type 1} → statement M
 mixes-spec =
