@@ -1,12 +1,13 @@
 -- Laws of ordered grounds. A ground is named by its number: where others are put before or between, nothing here moves.
 -- Assumes nothing.
-use mathlib.Core.Bool.{Bool, cond, not, false, true, _||_, true≢false}
+use mathlib.Core.Bool.{Bool, cond, not, false, true, _&&_, _||_, true≢false}
 use mathlib.Core.List.{List, [], _∷_, _++_}
 use mathlib.Core.Logic.{_⊎_, inl, inr}
 use mathlib.Core.Path.{_≡_, refl, sym, ap, _∙_}
 use Prim.Native.Nat.{ℕ, suc, zero, _+_, _<_, _≤_}
 use native.Mathlib.Numerals.{add-one}
 use native.Mathlib.Omega.{arith}
+use borrow.Author.Tests.{eq-eqb}
 use lib.Dec.{eqb}
 use lib.ListN.{length, drop, getD, drop-of-length-le}
 use lib.Seq.{drop-cons}
@@ -73,6 +74,25 @@ groundsAfter number (g ∷ gs) = cond (eqb number (g .0)) gs (groundsAfter numbe
 abbrev pub areNumbered : List Ground → Bool
 areNumbered [] = true
 areNumbered (g ∷ gs) = accepted (g .0) false (areNumbered gs)
+
+-- no ground of this number holds
+abbrev pub unheld : ℕ → List Ground → Bool
+unheld number [] = true
+unheld number (g ∷ gs) = cond (eqb number (g .0)) (not (g .1)) true && unheld number gs
+
+-- then it is not the number of the first that does
+pub not-given : (number : ℕ) (gs : List Ground) → 0 < number → unheld number gs ≡ true → firstOf gs ≡ number → ⊥
+not-given number [] some none e = omega arith
+not-given number (g ∷ gs) some none e = go (g .0) (g .1) none e (not-given number gs some)
+  where
+    rest : (b : Bool) → cond b true true && unheld number gs ≡ true → unheld number gs ≡ true
+    rest true h = h
+    rest false h = h
+
+    go : (n : ℕ) (t : Bool) → cond (eqb number n) (not t) true && unheld number gs ≡ true → cond t n (firstOf gs) ≡ number
+        → (unheld number gs ≡ true → firstOf gs ≡ number → ⊥) → ⊥
+    go n true none e later = true≢false (sym none ∙ rw (eq-eqb number n (sym e)))
+    go n false none e later = later (rest (eqb number n) none) e
 
 -- where none holds, the condition of each number is false
 pub none-holds : (gs : List Ground) → areNumbered gs ≡ true → firstOf gs ≡ 0 → (number : ℕ) → conditionOf number gs ≡ false

@@ -19,6 +19,8 @@ pub mod FloorLoop
 pub mod UnitLoop
 -- what an accepted division has
 pub mod AcceptedDivision
+-- rounding to the nearest whole number
+pub mod Rounding
 -- a branch's test as the test of a definition
 pub mod Tests
 -- the laws for the crates above

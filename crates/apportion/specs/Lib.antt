@@ -2,5 +2,6 @@
 pub mod Places
 pub mod Grounds
 pub mod Dividing
+pub mod Fractions
 pub mod Nearness
 pub mod Inner

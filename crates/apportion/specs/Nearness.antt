@@ -1,8 +1,13 @@
 -- "A comparison with a fraction .. is made over whole numbers, both sides multiplied by its denominators, which are
 -- above 0 wherever it is made." Assumes nothing.
-use Prim.Native.Nat.{ℕ, _+_, _*_, _<_}
+use Prim.Native.Nat.{ℕ, _+_, _*_, _≤_, _<_}
 
 -- the number x is less than `units` from the fraction n / d, both ways; it never holds where d is 0
 pub record Within (units x n d : ℕ) : Type 0 where
   pub above : x * d < n + units * d
   pub below : n < x * d + units * d
+
+-- the number x is at most half a unit from the fraction n / d, both ways
+pub record WithinHalf (x n d : ℕ) : Type 0 where
+  pub above : 2 * (x * d) ≤ 2 * n + d
+  pub below : 2 * n ≤ 2 * (x * d) + d

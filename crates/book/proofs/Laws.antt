@@ -6,13 +6,14 @@
 -- Assumes nothing.
 use mathlib.Core.Bool.{true, false, cond, not, _&&_}
 use mathlib.Core.List.{List}
-use mathlib.Core.Path.{_≡_, _∙_, refl, sym}
+use mathlib.Core.Logic.{⊎-elim}
+use mathlib.Core.Path.{_≡_, _∙_, ap, refl, sym}
 use Prim.Native.Nat.{ℕ, _-_, _<_, _≤_, _+_}
 use native.Mathlib.Omega.{arith}
 use lib.Dec.{eqb}
 use lib.ListN.{length, length-set, List·getD-append, drop}
 use lib.Seq.{getD-set-same, getD-set-other}
-use borrow.Author.Tests.{le-ltb, lt-ltb, ne-eqb, leb-false, not-false}
+use borrow.Author.Tests.{le-leb, le-ltb, lt-ltb, ne-eqb, leb-false, not-false}
 use Rattle.apportion.specs.Places.{at, listBelow, oneIf}
 use Rattle.book_words.specs.Book.{mark, bookLength, categories, mostCategories, entries, mostEntries, elements, mostElements}
 use Rattle.book_words.specs.Book.{categoryOf, entryAt, elementAt, isClosed}
@@ -25,12 +26,16 @@ use Rattle.book_words.specs.declared.records.Element.{Element}
 use Rattle.book_shares.specs.Closing.{closeRefusal, closeBook}
 use Rattle.book_shares.specs.Shares.{closingShare}
 use Rattle.book.specs.declared.arguments.EnrolArguments.{EnrolArguments}
+use Rattle.book.specs.declared.arguments.LineArguments.{LineArguments}
 use Rattle.book.specs.declared.arguments.PostArguments.{PostArguments}
 use Rattle.book.specs.declared.arguments.QuoteArguments.{QuoteArguments}
 use Rattle.book.specs.Calls.{cleared, freshRefusal, freshBook, openRefusal, openBook, postRefusal, postBook, postedEntry}
 use Rattle.book.specs.Calls.{quoteInRange, strikeRefusal, strikeBook, enrolInRange, enrolRefusal, enrolBook, enrolledElement, quoteRefusal, quoteBook, quotedElement}
+use Rattle.book.specs.Calls.{postReply, postGrounds}
+use Rattle.book.specs.declared.replies.Reply.{Reply}
+use Rattle.book.specs.Lines.{linePost, lineReply, lineBook}
 use Rattle.book.specs.Statements.{ofChain, waits, elementsOver, waitingOver, sharesOver, zerosBeside, statementOf, statementRefusal, statementReply}
-use Rattle.apportion.proofs.Grounds.{or-none, refused-old, either}
+use Rattle.apportion.proofs.Grounds.{or-none, refused-old, either, not-given}
 use Rattle.apportion.proofs.Sums.{sum-zero}
 use Rattle.apportion.proofs.Lists.{filled, filled-length, list-length, list-at}
 use Rattle.book_words.proofs.Booleans.{and-both, both, cond-same}
@@ -42,6 +47,8 @@ use Rattle.book_words.proofs.RecordRules.{entry-numbered, entry-suits, element-
 use Rattle.book_words.proofs.RecordsAfterWrite.{CategoryAdded, category-added, EntryAdded, entry-added, EntryStruck, entry-struck, ElementAdded, element-added}
 use Rattle.book_words.proofs.SoundRecords.{SoundFacts, facts-sound, sound-facts}
 use Rattle.book_words.proofs.WordsAfterWrite.{filled-past}
+use Rattle.workbook.proofs.Laws.{line-number, line-most}
+use Rattle.book.proofs.LinesAsPosts.{away-or-posted}
 use Rattle.book.proofs.AcceptedCalls.{struck, opened, posted, unclosed-zero, enrolled, quoted, enrol-measured}
 use Rattle.book.proofs.SumsAfterCall.{category-sums, closing-sums}
 use Rattle.book.proofs.CallsKeepSound.{open-keeps, post-keeps, strike-keeps, element-keeps}
@@ -165,6 +172,41 @@ module _ (ws : List ℕ) where
         post-keeps ws (postBook ws p) (postedEntry p) w (post-added e) (leb-false mostEntries (entries ws) (none 8))
         (sym (entry-numbered ws (postedEntry p) (not-false (between 1 (categories ws) (p .category)) (none 2))) ∙ suits)
         (unclosed-zero ws (p .category) (none 4)) within)
+
+  -- line: an accepted one is the post of its converted cells
+  module _ (l : LineArguments) where
+    number : Reply → ℕ
+    number r = r .refusal
+
+    pub line-posted : lineReply ws l .refusal ≡ 0 → (postRefusal ws (linePost l) ≡ 0) × (lineBook ws l ≡ postBook ws (linePost l))
+    unfolding number postReply
+    line-posted e =
+        ⊎-elim (λ away. absurd (away .refused (sym (ap number (away .reply)) ∙ e))) (λ done. (sym (ap number (done .reply)) ∙ e, done .book))
+        (away-or-posted ws l)
+
+    pub line-refused : (lineReply ws l .refusal ≡ 0 → ⊥) → lineBook ws l ≡ ws
+    unfolding number postReply
+    line-refused ne =
+        ⊎-elim (λ away. away .book) (λ done. done .book ∙ post-refused (linePost l) (λ z. ne (ap number (done .reply) ∙ z))) (away-or-posted ws l)
+
+    pub line-sound : sound ws ≡ true → sound (lineBook ws l) ≡ true
+    line-sound w = ⊎-elim (λ away. ap sound (away .book) ∙ w) (λ done. ap sound (done .book) ∙ post-sound (linePost l) w) (away-or-posted ws l)
+
+    -- ground 7 never holds of it
+    pub line-in-range : lineReply ws l .refusal ≡ 7 → ⊥
+    unfolding number postReply postRefusal
+    line-in-range e =
+        ⊎-elim
+        (λ away.
+        let seven = sym (ap number (away .reply)) ∙ e in
+        ⊎-elim (away .refused) (λ other. ⊎-elim (λ z. omega (arith, z, seven)) (λ z. omega (arith, z, seven)) other) (line-number (l .line)))
+        (λ done.
+        let p = linePost l in
+        let most = line-most (l .line) (done .fine) in
+        not-given 7 (postGrounds ws p) (omega arith)
+        (rw (le-leb (p .quantity) 1_000_000_000_000 (most .0), le-leb (p .«operation_factor») 10_000_000_000 (most .1), le-leb (p .«provision_factor») 10_000_000_000 (most .2)))
+        (sym (ap number (done .reply)) ∙ e))
+        (away-or-posted ws l)
 
   -- strike
   module _ (entry : ℕ) where

@@ -5,6 +5,8 @@ pub mod QuotedAmounts
 pub mod TestsAsGrounds
 -- what holds where a call is accepted
 pub mod AcceptedCalls
+-- a line as the post of its converted cells
+pub mod LinesAsPosts
 -- ground 10 by the sums that a record would make
 pub mod GroundTen
 -- the sums of ground 10 after a call

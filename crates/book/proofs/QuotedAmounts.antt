@@ -5,7 +5,8 @@ use Prim.Native.Nat.{ℕ, _*_, _/_, _+_, _%_, _≤_}
 use native.Mathlib.Nat.{div-add-mod'}
 use native.Mathlib.Omega.{arith}
 use lib.Dec.{eqb}
-use Rattle.book_words.specs.Measures.{nearest, isMass, isDistance, isIntensity}
+use Rattle.apportion.specs.Fractions.{nearest}
+use Rattle.book_words.specs.Measures.{isMass, isDistance, isIntensity}
 use Rattle.book.specs.declared.arguments.QuoteArguments.{QuoteArguments}
 use Rattle.book.specs.Calls.{adjusted, quoteInRange}
 use Rattle.book_words.proofs.Booleans.{both}

@@ -10,7 +10,8 @@ use lib.ListN.{drop, length, set}
 use Rattle.apportion.specs.Grounds.{accepted, Ground, firstOf}
 use Rattle.apportion.specs.Places.{listBelow}
 use Rattle.book_words.specs.Book.{bookLength, mark, mostCategories, categories, addCategory, categoryOf, mostEntries, entries, addEntry, entryOf, strikeEntry, mostElements, elements, addElement, unnumbered, hasClosed}
-use Rattle.book_words.specs.Measures.{isKind, isGroup, unsuitedGroup, unsuited, isQuantity, isFactor, activityOf, isChain, isCode, isMass, isAmount, isDistance, isDistanceIn, isKgPerHead, nearest, isAdjust, isIntensity}
+use Rattle.apportion.specs.Fractions.{nearest}
+use Rattle.book_words.specs.Measures.{isKind, isGroup, unsuitedGroup, unsuited, isQuantity, isFactor, activityOf, isChain, isCode, isMass, isAmount, isDistance, isDistanceIn, isKgPerHead, isAdjust, isIntensity}
 use Rattle.book_words.specs.Mixture.{mixes}
 use Rattle.book_words.specs.Soundness.{sound}
 use Rattle.book_words.specs.declared.totals.Side.{Side}

@@ -1,4 +1,5 @@
-// The arguments of the calls that take several, each with its name and in its place of document 01.
+// The arguments of the calls that take several, each with its name and in its place of documents 01 and 02.
+use workbook::Line;
 
 pub struct PostArguments {
     pub category: u64,
@@ -9,6 +10,13 @@ pub struct PostArguments {
     // In mg CO2e per unit.
     pub operation_factor: u64,
     pub provision_factor: u64,
+}
+
+pub struct LineArguments {
+    pub category: u64,
+    // As of a post.
+    pub group: u64,
+    pub line: Line,
 }
 
 pub struct EnrolArguments {

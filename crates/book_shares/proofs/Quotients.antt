@@ -5,7 +5,7 @@ use Prim.Native.Nat.{ℕ, _<_, _*_, _+_, _/_, _%_, _≤_, _-_, _^_, zero, suc}
 use native.Mathlib.Nat.{mul-add-div-right, div-eq-of-lt, add-zero, div-add-mod', mod-lt, pow-suc}
 use native.Mathlib.Numerals.{sub-one}
 use native.Mathlib.Omega.{arith}
-use Rattle.book_words.specs.Measures.{nearest}
+use Rattle.apportion.specs.Fractions.{nearest}
 use Rattle.book_words.specs.Inner.Steps.{capped}
 use Rattle.apportion.proofs.Sums.{below-or-not}
 use Rattle.book_words.proofs.CappedSums.{capped-times, capped-add}

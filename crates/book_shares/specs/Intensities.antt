@@ -5,7 +5,8 @@ use Prim.Native.Nat.{ℕ, _*_, _+_}
 use lib.Dec.{eqb, ltb}
 use Rattle.apportion.specs.Grounds.{Ground, firstOf, accepted}
 use Rattle.book_words.specs.Book.{categoryOf, unnumbered, categories, hasClosed}
-use Rattle.book_words.specs.Measures.{isFreight, isHub, nearest}
+use Rattle.apportion.specs.Fractions.{nearest}
+use Rattle.book_words.specs.Measures.{isFreight, isHub}
 use Rattle.book_words.specs.Soundness.{sound}
 use Rattle.book_words.specs.declared.totals.Side.{Side}
 use Rattle.book_words.specs.declared.totals.Side.the-variants.{Operation as operation, Provision as provision}

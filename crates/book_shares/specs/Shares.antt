@@ -4,6 +4,7 @@ use mathlib.Core.List.{List, _∷_, []}
 use Prim.Native.Nat.{ℕ, _+_, _*_}
 use lib.Dec.{eqb}
 use Rattle.apportion.specs.Dividing.{divided}
+use Rattle.apportion.specs.Fractions.{Fraction, over}
 use Rattle.apportion.specs.Places.{at, listBelow}
 use Rattle.book_words.specs.Book.{elements, elementAt}
 use Rattle.book_words.specs.Measures.{isFreight}
@@ -43,14 +44,7 @@ closingShare ws category side place =
     + partAt ws category (Group 1) (pool ws category 1 side) place
     + partAt ws category (Group 2) (pool ws category 2 side) place
 
--- a fraction, by its numerator and its denominator
-pub record Fraction : Type 0 where
-  pub numerator : ℕ
-  pub denominator : ℕ
-
-abbrev pub over : ℕ → ℕ → Fraction
-over n d = record { numerator = n; denominator = d }
-
+-- the sum of two fractions
 abbrev pub plus : Fraction → Fraction → Fraction
 plus x y = over (x .numerator * y .denominator + y .numerator * x .denominator) (x .denominator * y .denominator)
 

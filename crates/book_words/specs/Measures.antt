@@ -1,6 +1,6 @@
--- The values, the codes and the activity of "The book", grounds 3, 6 and 7, passengers by mass, and rounding. Assumes nothing.
+-- The values, the codes and the activity of "The book", grounds 3, 6 and 7, and passengers by mass. Assumes nothing.
 use mathlib.Core.Bool.{Bool, not, _&&_, _||_, cond}
-use Prim.Native.Nat.{ℕ, _*_, _+_, _/_}
+use Prim.Native.Nat.{ℕ, _*_}
 use lib.Dec.{leb, eqb}
 use Rattle.book_words.specs.declared.records.Element.{Element}
 
@@ -117,7 +117,3 @@ byStandardMass e = e .amount * standardMass * e .distance
 -- an element's activity in ground 10
 unfoldable pub standardActivity : Element → ℕ
 standardActivity e = cond (isFreight (e .code)) (e .activity) (byStandardMass e)
-
--- "nearest, halves up": the whole number nearest to n / d, where d is above 0
-abbrev pub nearest : ℕ → ℕ → ℕ
-nearest n d = (2 * n + d) / (2 * d)

@@ -23,6 +23,7 @@ use Rattle.book.specs.declared.arguments.EnrolArguments.{EnrolArguments}
 use Rattle.book.specs.declared.arguments.PostArguments.{PostArguments}
 use Rattle.book.specs.declared.arguments.QuoteArguments.{QuoteArguments}
 use Rattle.book.specs.Calls.{freshBook, openRefusal, openReply, openBook, postRefusal, postReply, postBook, strikeRefusal, strikeBook}
+use Rattle.book.specs.Lines.{linePost, lineReply, lineBook}
 use Rattle.book.specs.Calls.{enrolledElement, enrolRefusal, enrolReply, enrolBook, quotedElement, quoteRefusal, quoteReply, quoteBook}
 use Rattle.book_words.proofs.SoundTests.{sound-counted}
 use Rattle.book_words.proofs.SameRecords.{same-or-not}
@@ -32,9 +33,10 @@ use Rattle.book_shares.proofs.CloseAccepted.{accepted-closing}
 use Rattle.book_shares.proofs.CloseWrites.{withShares}
 use Rattle.book.proofs.AcceptedCalls.{posted, struck, enrolled as enrolment-accepted, quoted as quote-accepted}
 use Rattle.book.proofs.Laws.{fresh-empty, open-refused, open-added, post-refused, post-added, strike-refused, strike-struck}
+use Rattle.book.proofs.Laws.{line-posted, line-refused}
 use Rattle.book.proofs.Laws.{enrol-refused, enrol-added, quote-refused, quote-added, close-refused, close-closed}
 use Rattle.conservation.specs.declared.Call.{Call}
-use Rattle.conservation.specs.declared.Call.the-variants.{Open, Post, Strike, Enrol, Quote, Close}
+use Rattle.conservation.specs.declared.Call.the-variants.{Open, Post, Line, Strike, Enrol, Quote, Close}
 use Rattle.conservation.specs.Runs.{step}
 use Rattle.conservation.specs.Tally.{TallyCategory, TallyEntry, Enrolment, Quotation, TallyElement, enrolled, quoted, Tally, emptyTally}
 use Rattle.conservation.specs.Tally.{numbered, kindOf, closedOf, closedIn, tallyOpen, tallyPost, markStruck, tallyStrike, tallyAdd}
@@ -252,6 +254,10 @@ pub step-read : (ws : List ℕ) (call : Call) → feed (tallyOf ws) call (step w
 unfolding openReply postReply enrolReply quoteReply
 step-read ws (Open kind) = feed-read ws (openBook ws kind) (Open kind) (openRefusal ws kind) (open-read ws kind) (open-refused ws kind)
 step-read ws (Post p) = feed-read ws (postBook ws p) (Post p) (postRefusal ws p) (post-read ws p) (post-refused ws p)
+step-read ws (Line l) =
+    feed-read ws (lineBook ws l) (Line l) (lineReply ws l .refusal)
+    (λ e. let posted = line-posted ws l e in post-read ws (linePost l) (posted .0) ∙ ap tallyOf (sym (posted .1)))
+    (line-refused ws l)
 step-read ws (Strike entry) = feed-read ws (strikeBook ws entry) (Strike entry) (strikeRefusal ws entry) (strike-read ws entry) (strike-refused ws entry)
 step-read ws (Enrol e) = feed-read ws (enrolBook ws e) (Enrol e) (enrolRefusal ws e) (enrol-read ws e) (enrol-refused ws e)
 step-read ws (Quote q) = feed-read ws (quoteBook ws q) (Quote q) (quoteRefusal ws q) (quote-read ws q) (quote-refused ws q)

@@ -17,6 +17,7 @@ use Rattle.book_words.specs.declared.totals.Side.the-variants.{Operation as ope
 use Rattle.book_words.specs.Totals.{shareOf, sharesOf}
 use Rattle.book_shares.specs.Shares.{exactOf}
 use Rattle.book.specs.Calls.{openReply, postReply, enrolReply, quoteReply}
+use Rattle.book.specs.Lines.{linePost}
 use Rattle.book.specs.ClassTotal.{overElements, classTotal}
 use Rattle.book.specs.Statements.{statementReply, statementOf, elementsOver, waitingOver, sharesOver, ofChain, waits}
 use Rattle.apportion.proofs.Grounds.{either}
@@ -24,10 +25,11 @@ use Rattle.apportion.proofs.Sums.{sum-add, sum-cong}
 use Rattle.book_words.proofs.Booleans.{and-both}
 use Rattle.book_words.proofs.ShareSums.{category-inside, open-shares, shares-all, sum-by-chain}
 use Rattle.book.proofs.Laws.{fresh-accepted, fresh-sound, open-sound, open-refused, post-sound, post-refused, strike-sound, strike-refused}
+use Rattle.book.proofs.Laws.{line-posted, line-refused, line-sound}
 use Rattle.book.proofs.Laws.{open-added, post-added, strike-struck, enrol-added, quote-added, close-closed}
 use Rattle.book.proofs.Laws.{enrol-sound, enrol-refused, quote-sound, quote-refused, close-sound, close-refused, statement-accepted}
 use Rattle.conservation.specs.declared.Call.{Call}
-use Rattle.conservation.specs.declared.Call.the-variants.{Open, Post, Strike, Enrol, Quote, Close}
+use Rattle.conservation.specs.declared.Call.the-variants.{Open, Post, Line, Strike, Enrol, Quote, Close}
 use Rattle.conservation.specs.Conserved.{gets, chainOf, waitsIn, chainGets, statementIn, quotedOn, statedOn, emissions, exactIn, Conserved, Conservation}
 use Rattle.conservation.specs.ClassTotal.{classTotalIn, TotalConservation}
 use Rattle.conservation.specs.Runs.{Run, step, next, after, runOf}
@@ -146,6 +148,7 @@ pub step-refused : (ws : List ℕ) (call : Call) → (step ws call .reply .refus
 unfolding openReply postReply enrolReply quoteReply
 step-refused ws (Open kind) = open-refused ws kind
 step-refused ws (Post p) = post-refused ws p
+step-refused ws (Line l) = line-refused ws l
 step-refused ws (Strike entry) = strike-refused ws entry
 step-refused ws (Enrol enrolment) = enrol-refused ws enrolment
 step-refused ws (Quote q) = quote-refused ws q
@@ -156,6 +159,9 @@ made-length : (ws : List ℕ) (call : Call) → step ws call .reply .refusal ≡
 unfolding openReply postReply enrolReply quoteReply
 made-length ws (Open kind) e = open-added ws kind e .same-length
 made-length ws (Post p) e = post-added ws p e .same-length
+made-length ws (Line l) e =
+    let posted = line-posted ws l e in
+    ap length (posted .1) ∙ post-added ws (linePost l) (posted .0) .same-length
 made-length ws (Strike entry) e = strike-struck ws entry e .same-length
 made-length ws (Enrol enrolment) e = enrol-added ws enrolment e .same-length
 made-length ws (Quote q) e = quote-added ws q e .same-length
@@ -169,6 +175,7 @@ step-length ws call =
 pub sound-step : (ws : List ℕ) (call : Call) → sound ws ≡ true → sound (step ws call .book) ≡ true
 sound-step ws (Open kind) = open-sound ws kind
 sound-step ws (Post p) = post-sound ws p
+sound-step ws (Line l) = line-sound ws l
 sound-step ws (Strike entry) = strike-sound ws entry
 sound-step ws (Enrol enrolment) = enrol-sound ws enrolment
 sound-step ws (Quote q) = quote-sound ws q
@@ -179,6 +186,7 @@ near-made : (ws : List ℕ) (call : Call) → step ws call .reply .refusal ≡ 0
 unfolding openReply postReply enrolReply quoteReply
 near-made ws (Open kind) = near-open ws kind
 near-made ws (Post p) = near-post ws p
+near-made ws (Line l) = λ e near. let posted = line-posted ws l e in rw (posted .1) (near-post ws (linePost l) (posted .0) near)
 near-made ws (Strike entry) = near-strike ws entry
 near-made ws (Enrol enrolment) = near-enrol ws enrolment
 near-made ws (Quote q) = near-quote ws q

@@ -17,7 +17,8 @@ use Rattle.book_words.specs.Soundness.{sound}
 use Rattle.book_words.specs.declared.records.Category.{Category}
 use Rattle.book_words.specs.declared.records.Element.{Element}
 use Rattle.book_shares.specs.Closing.{closeRefusal, closeBook}
-use Rattle.book_shares.specs.Shares.{Fraction, closingShare, exactOf}
+use Rattle.apportion.specs.Fractions.{Fraction}
+use Rattle.book_shares.specs.Shares.{closingShare, exactOf}
 use Rattle.book.specs.declared.arguments.EnrolArguments.{EnrolArguments}
 use Rattle.book.specs.declared.arguments.PostArguments.{PostArguments}
 use Rattle.book.specs.declared.arguments.QuoteArguments.{QuoteArguments}

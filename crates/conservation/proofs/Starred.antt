@@ -3,10 +3,14 @@ use mathlib.Core.Bool.{Bool, true, false, _&&_, true≢false}
 use mathlib.Core.List.{List, [], _∷_}
 use mathlib.Core.Path.{_≡_, refl, sym, ap₂}
 use Prim.Native.Nat.{ℕ}
+use lib.Count.{trailingZeros}
 use lib.Dec.{eqb}
+use lib.Ieee.{lt, round, size, units, span, climb, odd}
 use borrow.Author.Tests.{eqb-true}
 use Rattle.apportion.specs.Dividing.{refusal, sharesAfter, divided, floorAt, remainderAt, leftOver, before, rank, unitFor, unitAt, shareAt}
 use Rattle.apportion.specs.Places.{sumOf}
+use Rattle.workbook.specs.Doubles.{isRefused}
+use Rattle.workbook.specs.Lines.{lineRefusal}
 use Rattle.book_words.specs.Book.{addCategory, addEntry, addElement}
 use Rattle.book_words.specs.Measures.{activityOf, standardActivity}
 use Rattle.book_words.specs.Mixture.{passengerBelow, mixes}
@@ -21,6 +25,7 @@ use Rattle.book_shares.specs.Shares.{dividedAll, weights, partAt, closingShare}
 use Rattle.book_shares.specs.Sums.{pool as poolOf, activityAmong, passengersByMass}
 use Rattle.book.specs.Calls.{cleared, freshRefusal, freshBook, openRefusal, openReply, openBook, postRefusal, postReply, postBook}
 use Rattle.book.specs.Calls.{enrolRefusal, enrolReply, enrolBook, quotedAmount, quoteRefusal, quoteReply, quoteBook}
+use Rattle.book.specs.Lines.{lineReply, lineBook}
 use Rattle.conservation.specs.Conserved.{emissions}
 use Rattle.conservation.specs.Tally.{closedIn}
 use Rattle.conservation.specs.Starred.{reckoned, toHandOut, Row, starred, expected, HoldsOn, Holds, EveryRow}
@@ -75,5 +80,6 @@ unfolding refusal sharesAfter divided floorAt remainderAt leftOver before rank u
     sound allUnstruck unstruckOf
     sharesOf activities closeRefusal closeWith closeBook dividedAll weights partAt closingShare poolOf activityAmong
     passengersByMass openRefusal openReply openBook postRefusal postReply postBook enrolRefusal enrolReply enrolBook
-    quotedAmount quoteRefusal quoteReply quoteBook emissions closedIn
+    quotedAmount quoteRefusal quoteReply quoteBook emissions closedIn lineRefusal lineReply lineBook isRefused lt round size units span climb
+    odd trailingZeros
 starred-hold = every-row starred refl

@@ -16,7 +16,8 @@ use Rattle.book_words.specs.declared.totals.Side.the-variants.{Operation as ope
 use Rattle.book_words.specs.Totals.{shareOf}
 use Rattle.book_shares.specs.declared.weights.Recipients.{Recipients}
 use Rattle.book_shares.specs.declared.weights.Recipients.the-variants.{Freight, Passengers, Group}
-use Rattle.book_shares.specs.Shares.{Fraction, exactShare}
+use Rattle.apportion.specs.Fractions.{Fraction}
+use Rattle.book_shares.specs.Shares.{exactShare}
 use Rattle.book_shares.specs.Sums.{ifRecipient}
 use Rattle.book.specs.declared.replies.Statement.{Statement}
 use Rattle.book.specs.Calls.{freshRefusal}

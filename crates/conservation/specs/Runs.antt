@@ -3,9 +3,10 @@ use mathlib.Core.List.{List, [], _∷_}
 use Prim.Native.Nat.{ℕ}
 use Rattle.book.specs.declared.replies.Reply.{Reply}
 use Rattle.book.specs.Calls.{refusalAlone, freshBook, openReply, openBook, postReply, postBook, strikeRefusal, strikeBook, enrolReply, enrolBook, quoteReply, quoteBook}
+use Rattle.book.specs.Lines.{lineReply, lineBook}
 use Rattle.book_shares.specs.Closing.{closeRefusal, closeBook}
 use Rattle.conservation.specs.declared.Call.{Call}
-use Rattle.conservation.specs.declared.Call.the-variants.{Open, Post, Strike, Enrol, Quote, Close}
+use Rattle.conservation.specs.declared.Call.the-variants.{Open, Post, Line, Strike, Enrol, Quote, Close}
 use Rattle.conservation.specs.Tally.{Tally, emptyTally, feed}
 
 -- what a call answers, and the book that it leaves
@@ -17,6 +18,7 @@ pub record Step : Type 0 where
 abbrev pub step : List ℕ → Call → Step
 step ws (Open kind) = record { reply = openReply ws kind; book = openBook ws kind }
 step ws (Post p) = record { reply = postReply ws p; book = postBook ws p }
+step ws (Line l) = record { reply = lineReply ws l; book = lineBook ws l }
 step ws (Strike entry) = record { reply = refusalAlone (strikeRefusal ws entry); book = strikeBook ws entry }
 step ws (Enrol e) = record { reply = enrolReply ws e; book = enrolBook ws e }
 step ws (Quote q) = record { reply = quoteReply ws q; book = quoteBook ws q }

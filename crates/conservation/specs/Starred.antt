@@ -1,7 +1,9 @@
 -- "Reckoned by hand (* proved)": the starred cases, in one table. Assumes nothing.
+use mathlib.Core.Bool.{false}
 use mathlib.Core.List.{List, [], _∷_}
 use mathlib.Core.Path.{_≡_}
 use Prim.Native.Nat.{ℕ}
+use lib.Ieee.{Float, binary64, round}
 use lib.ListN.{length, replicate}
 use Rattle.apportion.specs.Dividing.{sharesAfter}
 use Rattle.apportion.specs.Places.{listBelow, sumOf}
@@ -9,8 +11,10 @@ use Rattle.book_words.specs.Book.{bookLength, elements, elementAt}
 use Rattle.book_words.specs.declared.totals.Side.{Side}
 use Rattle.book_words.specs.declared.totals.Side.the-variants.{Operation as operation, Provision as provision}
 use Rattle.book_words.specs.Totals.{shareOf}
+use Rattle.workbook.specs.declared.cells.Cell.{Cell}
+use Rattle.workbook.specs.declared.cells.Cell.the-variants.{Blank, Number, Span}
 use Rattle.conservation.specs.declared.Call.{Call}
-use Rattle.conservation.specs.declared.Call.the-variants.{Open, Post, Enrol, Quote, Close}
+use Rattle.conservation.specs.declared.Call.the-variants.{Open, Post, Line, Enrol, Quote, Close}
 use Rattle.conservation.specs.Conserved.{emissions}
 use Rattle.conservation.specs.Runs.{Run, runOf}
 
@@ -60,6 +64,20 @@ postCall group quantity operationFactor provisionFactor =
       quantity = quantity;
       «operation_factor» = operationFactor;
       «provision_factor» = provisionFactor;
+    })
+
+-- the double nearest to a decimal number, which is n / d: what a workbook holds of it
+abbrev double : ℕ → ℕ → Float
+double n d = round binary64 false n d
+
+-- a line for category 1, group 0: its three cells
+abbrev lineCall : Cell → Cell → Cell → Call
+lineCall quantity operationFactor provisionFactor =
+    Line
+    (record {
+      category = 1;
+      group = 0;
+      line = record { quantity = quantity; «operation_factor» = operationFactor; «provision_factor» = provisionFactor };
     })
 
 -- an enrolment in category 1 over 1 m: chain, code, amount, kg per head
@@ -124,6 +142,20 @@ starred =
     ∷ []))
     (2 ∷ 11 ∷ [])
     (4 ∷ 17 ∷ [])
+    -- For request (iii), which has no number of its own: 12.5 units, 3.1 to 3.4 grams and 0.0625 grams per unit. The quantity is 12,500;
+    -- the span's ends become 3,100 and 3,400, and their mean 3,250 mg; 62.5 becomes 63 mg. A line with a blank cell and one whose span is
+    -- exchanged are refused and add nothing.
+    ∷ row
+    (callsMade
+    (Open 1
+    ∷ lineCall (Number (double 25 2)) (Span (double 31 10) (double 34 10)) (Number (double 1 16))
+    ∷ lineCall (Number (double 25 2)) Blank (Number (double 1 16))
+    ∷ lineCall (Number (double 25 2)) (Span (double 34 10) (double 31 10)) (Number (double 1 16))
+    ∷ enrolCall 1 0 100 0
+    ∷ Close 1
+    ∷ []))
+    (40_625_000 ∷ [])
+    (787_500 ∷ [])
     -- "*Quote 1, 500 kg, 1 m: 1."
     -- Provision: intensity 5 is 2.5, halves up
     ∷ row (callsMade (quoteCall 0 500 1 1 5 ∷ [])) (1 ∷ []) (3 ∷ [])

@@ -8,11 +8,12 @@ use Rattle.apportion.specs.Grounds.{accepted}
 use Rattle.book_words.specs.Measures.{activityOf}
 use Rattle.book_words.specs.declared.totals.Side.the-variants.{Operation as operation, Provision as provision}
 use Rattle.book.specs.Calls.{postedAmount, quotedAmount}
+use Rattle.book.specs.Lines.{linePost}
 use Rattle.book.specs.declared.arguments.EnrolArguments.{EnrolArguments}
 use Rattle.book.specs.declared.arguments.PostArguments.{PostArguments}
 use Rattle.book.specs.declared.arguments.QuoteArguments.{QuoteArguments}
 use Rattle.conservation.specs.declared.Call.{Call}
-use Rattle.conservation.specs.declared.Call.the-variants.{Open, Post, Strike, Enrol, Quote, Close}
+use Rattle.conservation.specs.declared.Call.the-variants.{Open, Post, Line, Strike, Enrol, Quote, Close}
 
 pub record TallyCategory : Type 0 where
   pub kind : ℕ
@@ -151,6 +152,7 @@ tallyClose t category =
 abbrev pub tallied : Tally → Call → Tally
 tallied t (Open kind) = tallyOpen t kind
 tallied t (Post p) = tallyPost t p
+tallied t (Line l) = tallyPost t (linePost l)
 tallied t (Strike entry) = tallyStrike t entry
 tallied t (Enrol e) = tallyEnrol t e
 tallied t (Quote q) = tallyQuote t q

@@ -3,6 +3,7 @@
 ghost use mathlib.Core.Path.{_≡_};
 ghost use Rattle.conservation.specs.Runs.{step};
 use book::EnrolArguments;
+use book::LineArguments;
 use book::PostArguments;
 use book::QuoteArguments;
 use book::Reply;
@@ -13,6 +14,7 @@ pub enum Call {
     // Kind.
     Open(u64),
     Post(PostArguments),
+    Line(LineArguments),
     // Entry.
     Strike(u64),
     Enrol(EnrolArguments),
@@ -29,6 +31,7 @@ pub fn perform(book: &mut [u64], call: Call) -> Reply
     match call {
         Call::Open(kind) => book::open(book, kind),
         Call::Post(p) => book::post(book, p),
+        Call::Line(l) => book::post_line(book, l),
         Call::Strike(entry) => book::refusal_alone(book::strike(book, entry)),
         Call::Enrol(e) => book::enrol(book, e),
         Call::Quote(q) => book::quote(book, q),

@@ -3,6 +3,8 @@
 mod Putting
 -- a number's digits
 mod Decimals
+-- which bits spell a NaN
+mod NanBits
 -- what operations do
 mod OperationTests
 -- what records do, one after the other

@@ -41,10 +41,10 @@ pub reply-numbers : (alone : Bool) (refused number : ℕ) (rest : List ℕ)
 reply-numbers true refused number rest = (refl, omega arith)
 reply-numbers false refused number rest = (refl, omega arith)
 
--- operations 1 to 9 and 15: a call on the first `lent` words, or a load of the first `come` bytes, whose answer is printed
+-- operations 1 to 9, 15 and 17: a call on the first `lent` words, or a load of the first `come` bytes, whose answer is printed
 pub call-returned : (operation lent come : ℕ) (words : Words) (memory file buffer book : List ℕ) (state : State) (answer : Answer)
     → lent ≡ min (state .lent) arrayLength → come ≡ min (state .come) (length file)
-    → answeredOf answer book ≡ answered operation words (take lent memory) (take come file)
+    → answeredOf answer book ≡ answered operation words (state .cells .line) (take lent memory) (take come file)
     → onMachine (withText (numbersLine (take (answer .count) (answer .numbers)))) (stageOf (book ++ drop lent memory) file buffer state)
     ≡ onMachine (called operation words (take (state .come) file)) (stageOf memory file buffer state)
 unfolding called

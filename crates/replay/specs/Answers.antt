@@ -1,4 +1,4 @@
--- Operations 1 to 9 and 15: what a call of the book or a load answers, and what it leaves of the lent words. Assumes nothing.
+-- Operations 1 to 9, 15 and 17: what a call of the book or a load answers, and what it leaves of the lent words. Assumes nothing.
 use Prim.Native.Nat.{ℕ}
 use mathlib.Core.Bool.{cond, _||_}
 use mathlib.Core.List.{List, [], _∷_}
@@ -7,6 +7,7 @@ use lib.ListN.{take}
 use Rattle.book_shares.specs.declared.intensities.Intensity.{Intensity}
 use Rattle.book_shares.specs.Intensities.{intensityReply}
 use Rattle.book.specs.declared.arguments.EnrolArguments.{EnrolArguments}
+use Rattle.book.specs.declared.arguments.LineArguments.{LineArguments}
 use Rattle.book.specs.declared.arguments.PostArguments.{PostArguments}
 use Rattle.book.specs.declared.arguments.QuoteArguments.{QuoteArguments}
 use Rattle.book.specs.declared.replies.Reply.{Reply}
@@ -14,10 +15,11 @@ use Rattle.book.specs.declared.replies.Statement.{Statement}
 use Rattle.book.specs.Calls.{freshRefusal, freshBook}
 use Rattle.book.specs.Statements.{statementReply}
 use Rattle.conservation.specs.declared.Call.{Call}
-use Rattle.conservation.specs.declared.Call.the-variants.{Open, Post, Strike, Enrol, Quote, Close}
+use Rattle.conservation.specs.declared.Call.the-variants.{Open, Post, Line as Posted, Strike, Enrol, Quote, Close}
 use Rattle.conservation.specs.Runs.{step}
 use Rattle.book_file.specs.declared.answers.Numbers.{Numbers}
 use Rattle.book_file.specs.Loading.{loadNumbers, loadBook}
+use Rattle.workbook.specs.declared.lines.Line.{Line}
 use Rattle.replay.specs.declared.output.Answer.{Answer}
 use Rattle.replay.specs.declared.records.Words.{Words}
 
@@ -54,15 +56,19 @@ quoteOf words =
       «provision_intensity» = words .sixth;
     }
 
--- the call that the words of operations 2 to 7 ask for
-unfoldable pub callOf : Words → Call
-callOf words =
+abbrev lineOf : Words → Line → LineArguments
+lineOf words line = record { category = words .first; group = words .second; line = line }
+
+-- the call that the words of operations 2 to 7 and 17 ask for, 17 with the line of its cells
+unfoldable pub callOf : Words → Line → Call
+callOf words line =
     cond (eqb (words .operation) 2) (Open (words .first))
     (cond (eqb (words .operation) 3) (Post (postOf words))
     (cond (eqb (words .operation) 4) (Strike (words .first))
     (cond (eqb (words .operation) 5) (Enrol (enrolOf words))
     (cond (eqb (words .operation) 6) (Quote (quoteOf words))
-    (Close (words .first))))))
+    (cond (eqb (words .operation) 7) (Close (words .first))
+    (Posted (lineOf words line)))))))
 
 -- the numbers of a reply, of which strike and close have the refusal number alone
 abbrev pub replyCount : ℕ → ℕ
@@ -92,11 +98,12 @@ answering numbers book = record { numbers = numbers; book = book }
 abbrev pub answeredOf : Answer → List ℕ → Answered
 answeredOf answer book = answering (take (answer .count) (answer .numbers)) book
 
--- on the lent words, and 15 with the bytes of its file; a statement and an intensity leave the words as they are
-unfoldable pub answered : ℕ → Words → List ℕ → List ℕ → Answered
-answered operation words ws file =
+-- on the lent words, 15 with the bytes of its file and 17 with the line of its cells; a statement and an intensity leave the words as
+-- they are
+unfoldable pub answered : ℕ → Words → Line → List ℕ → List ℕ → Answered
+answered operation words line ws file =
     cond (eqb operation 1) (answering (freshRefusal ws ∷ []) (freshBook ws))
     (cond (eqb operation 8) (answering (statementReplyNumbers (statementReply ws (words .first))) ws)
     (cond (eqb operation 9) (answering (intensityNumbers (intensityReply ws (words .first) (words .second))) ws)
     (cond (eqb operation 15) (answering (fileNumbers (loadNumbers ws file)) (loadBook ws file))
-    (answering (replyNumbers operation (step ws (callOf words) .reply)) (step ws (callOf words) .book)))))
+    (answering (replyNumbers operation (step ws (callOf words line) .reply)) (step ws (callOf words line) .book)))))

@@ -1,6 +1,6 @@
 -- Demand 3 of the lists that are played: a list starts from an accepted fresh and goes on with calls. Statements, intensities,
--- divisions, weights and dumps may stand between them; pokes, lends, loads and a second fresh are no calls of such a list. Assumes
--- nothing.
+-- divisions, weights, dumps and cells may stand between them; pokes, lends, loads and a second fresh are no calls of such a list.
+-- Assumes nothing.
 use Prim.Native.Nat.{ℕ, zero, suc, _≤_}
 use mathlib.Core.Bool.{Bool, true, cond, _&&_, _||_}
 use mathlib.Core.List.{List, [], _∷_, _++_}
@@ -11,8 +11,10 @@ use Rattle.book.specs.Calls.{freshRefusal}
 use Rattle.conservation.specs.declared.Call.{Call}
 use Rattle.conservation.specs.Conserved.{Conserved}
 use Rattle.conservation.specs.Runs.{runOf}
+use Rattle.replay.specs.declared.cells.Cells.{Cells}
 use Rattle.replay.specs.declared.records.Words.{Words}
 use Rattle.replay.specs.Answers.{callOf}
+use Rattle.replay.specs.Cells.{cellOf, noCells, withCell}
 use Rattle.replay.specs.Replay.{lentWords}
 use Rattle.replay.specs.Stages.{recordBytes, Stage, handled, recordsIn, replayed}
 use Rattle.replay.specs.Words.{wordsOf}
@@ -25,26 +27,33 @@ wordsIn (suc left) bytes = wordsOf bytes ∷ wordsIn left (drop recordBytes byte
 abbrev pub recordWords : List ℕ → List Words
 recordWords bytes = wordsIn (recordsIn bytes) bytes
 
--- "opens, posts, strikes, enrolments, quotes and closings" are operations 2 to 7
+-- "opens, posts, strikes, enrolments, quotes and closings" are operations 2 to 7, and "Demand 3's lists may hold lines": operation 17
 abbrev pub isCall : Words → Bool
-isCall words = leb 2 (words .operation) && leb (words .operation) 7
+isCall words = (leb 2 (words .operation) && leb (words .operation) 7) || eqb (words .operation) 17
 
--- a statement, an intensity, a division, a weight and a dump leave the lent words as they are
+-- a statement, an intensity, a division, a weight, a dump and a cell leave the lent words as they are
 abbrev pub leavesBook : Words → Bool
 leavesBook words =
     eqb (words .operation) 8
     || (eqb (words .operation) 9
-    || (eqb (words .operation) 10 || (eqb (words .operation) 11 || eqb (words .operation) 14)))
+    || (eqb (words .operation) 10
+    || (eqb (words .operation) 11 || (eqb (words .operation) 14 || eqb (words .operation) 16))))
 
 -- the records are such operations alone
 abbrev pub areOfList : List Words → Bool
 areOfList [] = true
 areOfList (words ∷ rest) = (isCall words || leavesBook words) && areOfList rest
 
--- the calls of the records
-abbrev pub callsIn : List Words → List Call
-callsIn [] = []
-callsIn (words ∷ rest) = cond (isCall words) (callOf words ∷ callsIn rest) (callsIn rest)
+-- the listed cells after a record: a cell is listed with them, and a line uses them up
+abbrev pub cellsAfter : Words → Cells → Cells
+cellsAfter words cells =
+    cond (eqb (words .operation) 16) (withCell (cellOf words) cells) (cond (eqb (words .operation) 17) noCells cells)
+
+-- the calls of the records, of which the first begins with these cells listed
+abbrev pub callsIn : Cells → List Words → List Call
+callsIn cells [] = []
+callsIn cells (words ∷ rest) =
+    cond (isCall words) (callOf words (cells .line) ∷ callsIn (cellsAfter words cells) rest) (callsIn (cellsAfter words cells) rest)
 
 -- a list of calls was played from a fresh book that these words became: no file is on its way, the lent words are the book of a run
 -- of the calls, and demand 3 holds of them
@@ -67,4 +76,4 @@ abbrev pub ReplayConservation : Type 0
 ReplayConservation =
     (ws : List ℕ) (calls : List Call) (bytes : List ℕ) (stage : Stage)
     → Played ws calls stage → areOfList (recordWords bytes) ≡ true → replayed bytes stage .machine .good ≡ true
-    → Played ws (calls ++ callsIn (recordWords bytes)) (replayed bytes stage)
+    → Played ws (calls ++ callsIn (stage .machine .cells) (recordWords bytes)) (replayed bytes stage)

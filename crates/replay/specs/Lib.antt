@@ -3,6 +3,7 @@
 pub mod Words
 pub mod Text
 pub mod Waiting
+pub mod Cells
 pub mod Answers
 pub mod Replay
 pub mod Stages

@@ -6,9 +6,11 @@ use lib.Dec.{eqb, ltb, leb}
 use lib.ListN.{length, take, drop, set, replicate}
 use Rattle.apportion.specs.Places.{sumOf}
 use Rattle.apportion.specs.Dividing.{refusal, sharesAfter}
+use Rattle.replay.specs.declared.cells.Cells.{Cells}
 use Rattle.replay.specs.declared.records.Words.{Words}
 use Rattle.replay.specs.declared.state.State.{State}
 use Rattle.replay.specs.Answers.{Answered, answered}
+use Rattle.replay.specs.Cells.{cellOf, noCells, withCell}
 use Rattle.replay.specs.Text.{numbersLine}
 use Rattle.replay.specs.Waiting.{waitingIn, put}
 
@@ -20,11 +22,12 @@ arrayLength = 3000
 abbrev pub room : ℕ
 room = 300
 
--- what operations work on: the words of the book's array, and behind them the listed weights; how many weights are listed, and how
--- many words of the array are lent to calls; the bytes that wait to be written; and that no record was bad
+-- what operations work on: the words of the book's array, and behind them the listed weights; how many weights are listed, the listed
+-- cells, and how many words of the array are lent to calls; the bytes that wait to be written; and that no record was bad
 pub record Machine : Type 0 where
   pub memory : List ℕ
   pub count : ℕ
+  pub cells : Cells
   pub lent : ℕ
   pub waiting : List ℕ
   pub good : Bool
@@ -35,6 +38,7 @@ machineOf memory buffer state =
     record {
       memory = memory;
       count = state .count;
+      cells = state .cells;
       lent = state .lent;
       waiting = waitingIn buffer (state .output);
       good = state .good;
@@ -42,28 +46,32 @@ machineOf memory buffer state =
 
 -- before the first record
 abbrev pub started : Machine
-started = record { memory = replicate (arrayLength + room) 0; count = 0; lent = arrayLength; waiting = []; good = true }
+started = record { memory = replicate (arrayLength + room) 0; count = 0; cells = noCells; lent = arrayLength; waiting = []; good = true }
 
 -- a machine with one thing set anew
 abbrev pub withMemory : List ℕ → Machine → Machine
 withMemory memory machine =
-    record { memory = memory; count = machine .count; lent = machine .lent; waiting = machine .waiting; good = machine .good }
+    record { memory = memory; count = machine .count; cells = machine .cells; lent = machine .lent; waiting = machine .waiting; good = machine .good }
 
 abbrev pub withCount : ℕ → Machine → Machine
 withCount count machine =
-    record { memory = machine .memory; count = count; lent = machine .lent; waiting = machine .waiting; good = machine .good }
+    record { memory = machine .memory; count = count; cells = machine .cells; lent = machine .lent; waiting = machine .waiting; good = machine .good }
+
+abbrev pub withCells : Cells → Machine → Machine
+withCells cells machine =
+    record { memory = machine .memory; count = machine .count; cells = cells; lent = machine .lent; waiting = machine .waiting; good = machine .good }
 
 abbrev pub withLent : ℕ → Machine → Machine
 withLent lent machine =
-    record { memory = machine .memory; count = machine .count; lent = lent; waiting = machine .waiting; good = machine .good }
+    record { memory = machine .memory; count = machine .count; cells = machine .cells; lent = lent; waiting = machine .waiting; good = machine .good }
 
 abbrev pub withWaiting : List ℕ → Machine → Machine
 withWaiting waiting machine =
-    record { memory = machine .memory; count = machine .count; lent = machine .lent; waiting = waiting; good = machine .good }
+    record { memory = machine .memory; count = machine .count; cells = machine .cells; lent = machine .lent; waiting = waiting; good = machine .good }
 
 -- a bad record changes nothing else
 abbrev pub bad : Machine → Machine
-bad machine = record { memory = machine .memory; count = machine .count; lent = machine .lent; waiting = machine .waiting; good = false }
+bad machine = record { memory = machine .memory; count = machine .count; cells = machine .cells; lent = machine .lent; waiting = machine .waiting; good = false }
 
 -- a text is put behind the waiting bytes
 abbrev pub withText : List ℕ → Machine → Machine
@@ -81,9 +89,9 @@ abbrev pub returned : Answered → Machine → Machine
 returned answer machine =
     withText (numbersLine (answer .numbers)) (withMemory (answer .book ++ drop (lentCount machine) (machine .memory)) machine)
 
--- operations 1 to 9 and 15: a call on the lent words, or a load of the file
+-- operations 1 to 9, 15 and 17: a call on the lent words, 17 with the line of the listed cells, or a load of the file
 unfoldable pub called : ℕ → Words → List ℕ → Machine → Machine
-called operation words file machine = returned (answered operation words (lentWords machine) file) machine
+called operation words file machine = returned (answered operation words (machine .cells .line) (lentWords machine) file) machine
 
 -- the numbers of a division over the weights into shares: the refusal number, and the shares after the call
 abbrev pub division : ℕ → List ℕ → List ℕ → List ℕ
@@ -126,10 +134,21 @@ unfoldable pub dumped : ℕ → ℕ → Machine → Machine
 dumped start count machine =
     cond (leb (start + count) arrayLength) (withText (numbersLine (take count (drop start (machine .memory)))) machine) (bad machine)
 
+-- operation 16: a cell is listed, where its form is one and there is room
+unfoldable pub cellListed : Words → Machine → Machine
+cellListed words machine =
+    cond (ltb 2 (words .first) || ltb 2 (machine .cells .count)) (bad machine) (withCells (withCell (cellOf words) (machine .cells)) machine)
+
+-- operation 17: a line of the listed cells, where they are three, is posted, and the list is emptied
+unfoldable pub lineDone : Words → List ℕ → Machine → Machine
+lineDone words file machine = cond (eqb (machine .cells .count) 3) (withCells noCells (called 17 words file machine)) (bad machine)
+
 -- what an operation does with the words of its record, 15 with the bytes of its file
 unfoldable pub performed : ℕ → Words → List ℕ → Machine → Machine
 performed operation words file machine =
     cond ((leb 1 operation && leb operation 9) || eqb operation 15) (called operation words file machine)
     (cond (eqb operation 10) (divisionDone (words .first) (words .second) machine)
     (cond (eqb operation 14) (dumped (words .first) (words .second) machine)
-    (changed operation words machine)))
+    (cond (eqb operation 16) (cellListed words machine)
+    (cond (eqb operation 17) (lineDone words file machine)
+    (changed operation words machine)))))

@@ -1,10 +1,11 @@
-// Operations 1 to 9 and 15: the calls of the book and the load of a file, on the lent words of its array.
+// Operations 1 to 9, 15 and 17: the calls of the book and the load of a file, on the lent words of its array.
 ghost use mathlib.Core.Path.{_≡_};
 ghost use Prim.Native.Nat.{_+_, _≤_};
 ghost use lib.ListN.{length, take};
 ghost use Rattle.replay.specs.Answers.{callOf, answeredOf, replyCount, answered};
-ghost use Rattle.replay.specs.Replay.{arrayLength, room, called};
+ghost use Rattle.replay.specs.Replay.{arrayLength, room, called, lineDone};
 ghost use Rattle.replay.specs.Stages.{stageOf, onMachine};
+use crate::cells;
 use crate::memory;
 use crate::output;
 use crate::output::Answer;
@@ -13,9 +14,11 @@ use crate::records::Words;
 use crate::state;
 use crate::state::State;
 use book::EnrolArguments;
+use book::LineArguments;
 use book::PostArguments;
 use book::QuoteArguments;
 use conservation::Call;
+use workbook::Line;
 
 // Does what an operation asks of the book, and prints its answer.
 pub fn call(
@@ -33,15 +36,37 @@ pub fn call(
 {
     let lent = state::least(state.lent, memory::LENGTH);
     let come = state::least(state.come, file.len());
-    let answer = answer(operation, words, &mut memory[..lent], &file[..come]);
+    let cells = state.cells;
+    let line = cells.line;
+    let answer = answer(operation, words, line, &mut memory[..lent], &file[..come]);
     let numbers = answer.numbers;
     let count = answer.count;
     output::print(&numbers[..count], buffer, state)
 }
 
-// What an operation answers on the lent words, 15 with the bytes of its file.
-fn answer(operation: u64, words: Words, book: &mut [u64], file: &[u8]) -> Answer
-    ensures { λ r. ⌜ answeredOf r (now (book .exit)) ≡ answered operation words (now (book .entry)) (now (file .entry)) ⌝ }
+// Operation 17: posts the line of the listed cells, which have to be three, and empties the list.
+pub fn line(
+    words: Words,
+    memory: &mut [u64],
+    file: &[u8],
+    buffer: &mut Buffer,
+    state: State,
+) -> State
+    requires { ⌜ length (now memory) ≡ arrayLength + room ⌝ }
+    ensures { λ r. ⌜ stageOf (now (memory .exit)) (now (file .entry)) (now (buffer .exit)) r
+        ≡ onMachine (lineDone words (take (state .come) (now (file .entry))))
+        (stageOf (now (memory .entry)) (now (file .entry)) (now (buffer .entry)) state) ⌝ }
+{
+    let listed = state.cells;
+    if listed.count != 3 {
+        return state::bad(state);
+    }
+    cells::with_cells(cells::none(), call(17, words, memory, file, buffer, state))
+}
+
+// What an operation answers on the lent words, 15 with the bytes of its file, 17 with the line of its cells.
+fn answer(operation: u64, words: Words, line: Line, book: &mut [u64], file: &[u8]) -> Answer
+    ensures { λ r. ⌜ answeredOf r (now (book .exit)) ≡ answered operation words line (now (book .entry)) (now (file .entry)) ⌝ }
     ensures { λ r. ⌜ r .count ≤ length (r .numbers) ⌝ }
 {
     match operation {
@@ -81,7 +106,7 @@ fn answer(operation: u64, words: Words, book: &mut [u64], file: &[u8]) -> Answer
             }
         }
         _ => {
-            let reply = conservation::perform(book, call_of(words));
+            let reply = conservation::perform(book, call_of(words, line));
             Answer {
                 numbers: [reply.refusal, reply.number, 0, 0, 0, 0],
                 count: reply_count(operation),
@@ -101,9 +126,9 @@ fn reply_count(operation: u64) -> usize
     }
 }
 
-// The call that the words of operations 2 to 7 ask for.
-fn call_of(words: Words) -> Call
-    ensures { λ r. ⌜ r ≡ callOf words ⌝ }
+// The call that the words of operations 2 to 7 and 17 ask for, 17 with this line.
+fn call_of(words: Words, line: Line) -> Call
+    ensures { λ r. ⌜ r ≡ callOf words line ⌝ }
 {
     let operation = words.operation;
     match operation {
@@ -132,6 +157,11 @@ fn call_of(words: Words) -> Call
             operation_intensity: words.fifth,
             provision_intensity: words.sixth,
         }),
-        _ => Call::Close(words.first),
+        7 => Call::Close(words.first),
+        _ => Call::Line(LineArguments {
+            category: words.first,
+            group: words.second,
+            line,
+        }),
     }
 }

@@ -4,6 +4,7 @@
 // are the bytes of a file, the last padded to a whole record. The line of a bad record, `bad record N`, is the last;
 // so is that of a record that does not come, where the input ends within a file.
 mod calls;
+mod cells;
 mod files;
 mod memory;
 mod operations;

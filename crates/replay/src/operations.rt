@@ -5,6 +5,7 @@ ghost use Prim.Native.Nat.{ℕ};
 ghost use lib.ListN.{length};
 ghost use Rattle.replay.specs.Stages.{fileRoom, stageOf, due, handled};
 use crate::calls;
+use crate::cells;
 use crate::files;
 use crate::files::File;
 use crate::memory;
@@ -73,6 +74,8 @@ pub fn perform(
     match operation {
         10 => memory::divide(words.first, words.second, memory, buffer, state),
         14 => memory::dump(words.first, words.second, memory, buffer, state),
+        16 => cells::list(words, state),
+        17 => calls::line(words, memory, file, buffer, state),
         _ => memory::change(operation, words, memory, state),
     }
 }

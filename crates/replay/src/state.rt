@@ -6,12 +6,16 @@ ghost use Prim.Native.Nat.{ℕ, _+_, min};
 ghost use lib.ListN.{replicate};
 ghost use Rattle.replay.specs.Replay.{arrayLength, room, bad};
 ghost use Rattle.replay.specs.Stages.{stageOf, firstStage, onMachine};
+use crate::cells;
+use crate::cells::Cells;
 use crate::memory;
 use crate::output::Output;
 
 pub struct State {
     // How many weights are listed.
     pub count: usize,
+    // The cells that are listed.
+    pub cells: Cells,
     // How many words of the array are lent to the book's calls.
     pub lent: usize,
     // How many bytes of a file have come, and how many are to come.
@@ -25,14 +29,16 @@ pub struct State {
     pub output: Output,
 }
 
-// Before the first record: no weight is listed, the whole array is lent, no file is on its way and no byte waits.
+// Before the first record: no weight and no cell is listed, the whole array is lent, no file is on its way and no byte waits.
 pub fn first() -> State
     ensures { λ r. ⌜ ((file buffer : List ℕ) → stageOf (replicate (arrayLength + room) 0) file buffer r ≡ firstStage) ⌝ }
     ensures { λ r. ⌜ r .output .ok ≡ true ⌝ }
 {
     let output = Output { at: 0, ok: true };
+    let cells = cells::none();
     State {
         count: 0,
+        cells,
         lent: memory::LENGTH,
         come: 0,
         missing: 0,

@@ -20,6 +20,12 @@ post-requires c κs = search needs
 enum-known-call-3 : tie.Need-enum-known-call-3
 enum-known-call-3 c = search needs
 
+post-line-requires : tie.Need-post-line-requires
+post-line-requires c κs = search needs
+
+enum-known-call-7 : tie.Need-enum-known-call-7
+enum-known-call-7 c = search needs
+
 strike-requires : tie.Need-strike-requires
 strike-requires c κs = search needs
 
@@ -63,29 +69,35 @@ same-length-3 : tie.Need-same-length-3
 same-length-3 c = search needs
 
 returns-3 : tie.Need-returns-3
-returns-3 c =
-    let made = c .before .before .before in
-    rw (made .before .before .before .call3 .given .1) (c .refusal-alone .ensures ∙ ap refusalAlone (made .strike .ensures .0), made .strike .ensures .1)
+returns-3 c = rw (c .before .before .before .before .before .call3 .given .1) (c .before .before .post-line .ensures)
 
 same-length-4 : tie.Need-same-length-4
 same-length-4 c = search needs
 
 returns-4 : tie.Need-returns-4
-returns-4 c = rw (c .before .before .before .before .before .call4 .given .1) (c .before .before .enrol .ensures)
+returns-4 c =
+    let made = c .before .before .before in
+    rw (made .before .before .before .call4 .given .1) (c .refusal-alone .ensures ∙ ap refusalAlone (made .strike .ensures .0), made .strike .ensures .1)
 
 same-length-5 : tie.Need-same-length-5
 same-length-5 c = search needs
 
 returns-5 : tie.Need-returns-5
-returns-5 c = rw (c .before .before .before .before .before .call5 .given .1) (c .before .before .quote .ensures)
+returns-5 c = rw (c .before .before .before .before .before .call5 .given .1) (c .before .before .enrol .ensures)
 
 same-length-6 : tie.Need-same-length-6
 same-length-6 c = search needs
 
 returns-6 : tie.Need-returns-6
-returns-6 c =
+returns-6 c = rw (c .before .before .before .before .before .call6 .given .1) (c .before .before .quote .ensures)
+
+same-length-7 : tie.Need-same-length-7
+same-length-7 c = search needs
+
+returns-7 : tie.Need-returns-7
+returns-7 c =
     let made = c .before .before .before in
-    rw (made .before .before .before .call6 .given .1) (c .refusal-alone2 .ensures ∙ ap refusalAlone (made .close .ensures .0), made .close .ensures .1)
+    rw (made .before .before .before .call7 .given .1) (c .refusal-alone2 .ensures ∙ ap refusalAlone (made .close .ensures .0), made .close .ensures .1)
 
 pub perform-spec : {M : Type 1} → statement M
 perform-spec =
@@ -96,13 +108,15 @@ perform-spec =
     enum-known-call-2
     post-requires
     enum-known-call-3
+    post-line-requires
+    enum-known-call-4
     strike-requires
     refusal-alone-requires
-    enum-known-call-4
-    enrol-requires
     enum-known-call-5
-    quote-requires
+    enrol-requires
     enum-known-call-6
+    quote-requires
+    enum-known-call-7
     close-requires
     refusal-alone-requires-2
     same-length
@@ -116,4 +130,6 @@ perform-spec =
     same-length-5
     returns-5
     same-length-6
-    returns-6)
+    returns-6
+    same-length-7
+    returns-7)

@@ -2,7 +2,7 @@
 use mathlib.Core.Path.{_∙_, ap}
 use Prim.Native.Nat.{ℕ, _*_, _^_}
 use borrow.Author.Needs.{needs}
-use Rattle.book_words.specs.Measures.{nearest}
+use Rattle.apportion.specs.Fractions.{nearest}
 use Rattle.book_words.specs.Inner.Steps.{capped}
 use Rattle.book_shares.proofs.MemberSums.{listed-activity}
 use Rattle.book_shares.proofs.intensities.per_activity.Statement.{statement}

@@ -40,7 +40,7 @@ same-length c = search needs
 returns : tie.Need-returns
 returns c =
     let made = c .before .before .before .before .before .before in
-    let counted = made .before .before .before in
+    let counted = made .before .before .before .before .before in
     let args = counted .before .before .before .before .args in
     c .print .ensures _ _
     ∙ call-returned (args .operation) (counted .before .least .result) (counted .least2 .result) (args .words) (args .memory .now) (args .file .now)

@@ -25,6 +25,12 @@ divide-requires c κs = search needs
 dump-requires : tie.Need-dump-requires
 dump-requires c κs = search needs
 
+list-requires : tie.Need-list-requires
+list-requires c κs = search needs
+
+line-requires : tie.Need-line-requires
+line-requires c κs = search needs
+
 change-requires : tie.Need-change-requires
 change-requires c κs = search needs
 
@@ -43,13 +49,27 @@ returns-4 c =
 returns-5 : tie.Need-returns-5
 unfolding due performed
 returns-5 c =
+    let test = c .before .before in
+    rw (le-ltb 0 _ (test .before .if1 .left), c .before .match .keys3) (c .list .ensures _ _ _)
+
+returns-6 : tie.Need-returns-6
+unfolding due performed
+returns-6 c =
+    let test = c .before .before .before .before .before in
+    rw (le-ltb 0 _ (test .before .if1 .left), c .before .before .before .before .match .keys4) (c .line .ensures)
+
+returns-7 : tie.Need-returns-7
+unfolding due performed
+returns-7 c =
     let other = c .before .before in
     let test = other .before in
     rw (
       le-ltb 0 _ (test .before .if1 .left),
       test .if2 .left,
-      ne-eqb _ 10 (other .match .rest .0 .1),
-      ne-eqb _ 14 (other .match .rest .1),
+      ne-eqb _ 10 (other .match .rest .0 .0 .0 .1),
+      ne-eqb _ 14 (other .match .rest .0 .0 .1),
+      ne-eqb _ 16 (other .match .rest .0 .1),
+      ne-eqb _ 17 (other .match .rest .1),
     )
     (c .change .ensures _ _)
 
@@ -62,7 +82,11 @@ perform-spec =
     returns-2
     divide-requires
     dump-requires
+    list-requires
+    line-requires
     change-requires
     returns-3
     returns-4
-    returns-5)
+    returns-5
+    returns-6
+    returns-7)

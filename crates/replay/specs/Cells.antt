@@ -1,0 +1,35 @@
+-- Operation 16: the cells of a line. Assumes nothing.
+use Prim.Native.Nat.{ℕ}
+use mathlib.Core.Bool.{cond}
+use lib.Dec.{eqb}
+use lib.Ieee.{binary64, ofBits}
+use Rattle.workbook.specs.declared.cells.Cell.{Cell}
+use Rattle.workbook.specs.declared.cells.Cell.the-variants.{Blank, Number, Span}
+use Rattle.workbook.specs.declared.lines.Line.{Line}
+use Rattle.replay.specs.declared.cells.Cells.{Cells}
+use Rattle.replay.specs.declared.records.Words.{Words}
+
+-- a cell by its form, 0 blank, 1 a number, else a span, and the bits of its doubles
+abbrev pub cellOf : Words → Cell
+cellOf words =
+    cond (eqb (words .first) 0) Blank
+    (cond (eqb (words .first) 1) (Number (ofBits binary64 (words .second)))
+    (Span (ofBits binary64 (words .second)) (ofBits binary64 (words .third))))
+
+-- so many cells of a line, from the left, with blank ones behind them
+abbrev pub cellsBy : ℕ → Cell → Cell → Cell → Cells
+cellsBy count quantity operation provision =
+    record {
+      count = count;
+      line = record { quantity = quantity; «operation_factor» = operation; «provision_factor» = provision };
+    }
+
+abbrev pub noCells : Cells
+noCells = cellsBy 0 Blank Blank Blank
+
+-- the listed cells and one more, of which there is room for three
+abbrev pub withCell : Cell → Cells → Cells
+withCell cell cells =
+    cond (eqb (cells .count) 0) (cellsBy 1 cell Blank Blank)
+    (cond (eqb (cells .count) 1) (cellsBy 2 (cells .line .quantity) cell Blank)
+    (cellsBy 3 (cells .line .quantity) (cells .line .«operation_factor») cell))

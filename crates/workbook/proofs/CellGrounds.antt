@@ -1,0 +1,195 @@
+-- A cell by its grounds, and a line by its cells. Assumes nothing.
+use mathlib.Core.Bool.{Bool, true, false, cond, _||_, true≢false}
+use mathlib.Core.List.{List, [], _∷_, _++_}
+use mathlib.Core.Logic.{_⊎_, inl, inr}
+use mathlib.Core.Path.{_≡_, _∙_, ap, refl, sym}
+use Prim.Native.Nat.{ℕ, zero, suc}
+use native.Mathlib.Omega.{arith}
+use lib.Ieee.{Float, lt}
+use Rattle.apportion.specs.Grounds.{accepted, Ground, firstOf}
+use Rattle.apportion.proofs.Grounds.{accepted-new, refused-old}
+use Rattle.workbook.specs.declared.cells.Cell.{Cell}
+use Rattle.workbook.specs.declared.cells.Cell.the-variants.{Blank, Number, Span}
+use Rattle.workbook.specs.declared.cells.Conversion.{Conversion}
+use Rattle.workbook.specs.declared.cells.Conversion.the-variants.{Value, Refused}
+use Rattle.workbook.specs.declared.lines.Line.{Line}
+use Rattle.workbook.specs.declared.lines.ConvertedLine.{ConvertedLine}
+use Rattle.workbook.specs.Doubles.{exact, thousandths, isRefused}
+use Rattle.workbook.specs.Cells.{quantityLimit, factorLimit, cellGrounds, mean, cellValue, conversionBy, conversionOf, refusalOf, valueOf}
+use Rattle.workbook.specs.Inner.Steps.{firstNumber}
+use Rattle.workbook.specs.Lines.{lineRefusal, convertedLine}
+
+-- a conversion by its number and its value
+by-number : (refusal value : ℕ) → (refusalOf (conversionBy refusal value) ≡ refusal) × (valueOf (conversionBy refusal value) ≡ accepted refusal value 0)
+by-number zero value = (refl, refl)
+by-number (suc n) value = (refl, refl)
+
+-- document 02's number and the value of what a cell comes to
+pub conversion-numbers : (limit : ℕ) (cell : Cell)
+    → (refusalOf (conversionOf limit cell) ≡ firstOf (cellGrounds limit cell))
+    × (valueOf (conversionOf limit cell) ≡ accepted (firstOf (cellGrounds limit cell)) (cellValue cell) 0)
+unfolding conversionOf
+conversion-numbers limit cell = by-number (firstOf (cellGrounds limit cell)) (cellValue cell)
+
+-- where it is accepted, its value is the cell's
+value-accepted : (limit : ℕ) (cell : Cell) → firstOf (cellGrounds limit cell) ≡ 0 → valueOf (conversionOf limit cell) ≡ cellValue cell
+value-accepted limit cell e = conversion-numbers limit cell .1 ∙ accepted-new (firstOf (cellGrounds limit cell)) (cellValue cell) 0 e
+
+abbrev isValue : Conversion → Bool
+isValue (Value value) = true
+isValue (Refused number) = false
+
+-- a double by what it comes to
+pub number-refused : (limit : ℕ) (x : Float) (n : ℕ) → conversionOf limit (Number x) ≡ Refused n → isRefused limit x ≡ true
+unfolding conversionOf
+number-refused limit x n e = go (isRefused limit x) e
+  where
+    go : (refused : Bool) → conversionBy (cond refused 15 0) (thousandths (exact x)) ≡ Refused n → refused ≡ true
+    go true e = refl
+    go false e = absurd (true≢false (ap isValue e))
+
+pub number-value : (limit : ℕ) (x : Float) (v : ℕ) → conversionOf limit (Number x) ≡ Value v → (isRefused limit x ≡ false) × (v ≡ thousandths (exact x))
+unfolding conversionOf
+number-value limit x v e = go (isRefused limit x) e
+  where
+    go : (refused : Bool) → conversionBy (cond refused 15 0) (thousandths (exact x)) ≡ Value v → (refused ≡ false) × (v ≡ thousandths (exact x))
+    go true e = absurd (true≢false (sym (ap isValue e)))
+    go false e = (refl, sym (ap valueOf e))
+
+-- a span whose first double is refused, one whose second is, one that is exchanged, and any other
+pub span-first : (limit : ℕ) (x y : Float) → isRefused limit x ≡ true → Refused 15 ≡ conversionOf limit (Span x y)
+unfolding conversionOf
+span-first limit x y e = rw e
+
+module _ (limit : ℕ) (x y : Float) (fine : isRefused limit x ≡ false) where
+  pub span-second : isRefused limit y ≡ true → Refused 15 ≡ conversionOf limit (Span x y)
+  unfolding conversionOf
+  span-second e = rw (fine, e)
+
+  pub span-exchanged : isRefused limit y ≡ false → lt y x ≡ true → Refused 16 ≡ conversionOf limit (Span x y)
+  unfolding conversionOf
+  span-exchanged e below = rw (fine, e, below)
+
+  pub span-converted : isRefused limit y ≡ false → lt y x ≡ false → Value (mean (thousandths (exact x)) (thousandths (exact y))) ≡ conversionOf limit (Span x y)
+  unfolding conversionOf
+  span-converted e below = rw (fine, e, below)
+
+-- a cell's grounds decide, or those behind them
+cell-first : (limit : ℕ) (cell : Cell) (rest : List Ground)
+    → firstOf (cellGrounds limit cell ++ rest) ≡ accepted (firstOf (cellGrounds limit cell)) (firstOf rest) (firstOf (cellGrounds limit cell))
+cell-first limit Blank rest = refl
+cell-first limit (Number x) rest = go (isRefused limit x)
+  where
+    go : (b : Bool) → cond b 15 (firstOf rest) ≡ accepted (cond b 15 0) (firstOf rest) (cond b 15 0)
+    go true = refl
+    go false = refl
+cell-first limit (Span x y) rest = go (isRefused limit x || isRefused limit y) (lt y x)
+  where
+    go : (b d : Bool) → cond b 15 (cond d 16 (firstOf rest)) ≡ accepted (cond b 15 (cond d 16 0)) (firstOf rest) (cond b 15 (cond d 16 0))
+    go true d = refl
+    go false true = refl
+    go false false = refl
+
+-- a number of cells: none holds, 15 or 16
+abbrev pub OfCells : ℕ → Type 0
+OfCells n = (n ≡ 0) ⊎ ((n ≡ 15) ⊎ (n ≡ 16))
+
+cell-number : (limit : ℕ) (cell : Cell) → OfCells (firstOf (cellGrounds limit cell))
+cell-number limit Blank = inr (inl refl)
+cell-number limit (Number x) = go (isRefused limit x)
+  where
+    go : (b : Bool) → OfCells (cond b 15 0)
+    go true = inr (inl refl)
+    go false = inl refl
+cell-number limit (Span x y) = go (isRefused limit x || isRefused limit y) (lt y x)
+  where
+    go : (b d : Bool) → OfCells (cond b 15 (cond d 16 0))
+    go true d = inr (inl refl)
+    go false true = inr (inr refl)
+    go false false = inl refl
+
+one-of-three : (a b c : ℕ) → OfCells a → OfCells b → OfCells c → OfCells (firstNumber a b c)
+one-of-three zero zero c of-a of-b of-c = of-c
+one-of-three zero (suc b) c of-a of-b of-c = of-b
+one-of-three (suc a) b c of-a of-b of-c = of-a
+
+-- where the first of three numbers is 0, all three are
+none-of-three : (a b c : ℕ) → firstNumber a b c ≡ 0 → (a ≡ 0) × (b ≡ 0) × (c ≡ 0)
+none-of-three zero zero c e = (refl, refl, e)
+none-of-three zero (suc b) c e = let z : ⊥ = omega (arith, e) in absurd z
+none-of-three (suc a) b c e = let z : ⊥ = omega (arith, e) in absurd z
+
+-- a line by its three cells
+module _ (line : Line) where
+  abbrev quantityRefusal : ℕ
+  quantityRefusal = firstOf (cellGrounds quantityLimit (line .quantity))
+
+  abbrev operationRefusal : ℕ
+  operationRefusal = firstOf (cellGrounds factorLimit (line .«operation_factor»))
+
+  abbrev provisionRefusal : ℕ
+  provisionRefusal = firstOf (cellGrounds factorLimit (line .«provision_factor»))
+
+  refusal-by-cells : lineRefusal line ≡ firstNumber quantityRefusal operationRefusal provisionRefusal
+  unfolding lineRefusal
+  refusal-by-cells =
+      let p = cellGrounds factorLimit (line .«provision_factor») in
+      cell-first quantityLimit (line .quantity) (cellGrounds factorLimit (line .«operation_factor») ++ p)
+      ∙ ap (λ (n : ℕ). accepted quantityRefusal n quantityRefusal) (cell-first factorLimit (line .«operation_factor») p)
+
+  -- a line's number is one of cells
+  pub line-number : OfCells (lineRefusal line)
+  line-number =
+      rw refusal-by-cells
+      (one-of-three quantityRefusal operationRefusal provisionRefusal
+      (cell-number quantityLimit (line .quantity))
+      (cell-number factorLimit (line .«operation_factor»))
+      (cell-number factorLimit (line .«provision_factor»)))
+
+  -- an accepted line has three accepted cells
+  pub cells-accepted : lineRefusal line ≡ 0 → (quantityRefusal ≡ 0) × (operationRefusal ≡ 0) × (provisionRefusal ≡ 0)
+  cells-accepted e = none-of-three quantityRefusal operationRefusal provisionRefusal (sym refusal-by-cells ∙ e)
+
+  -- from what the three cells come to
+  module _ {q o p : Conversion} (is-q : q ≡ conversionOf quantityLimit (line .quantity)) (is-o : o ≡ conversionOf factorLimit (line .«operation_factor»))
+      (is-p : p ≡ conversionOf factorLimit (line .«provision_factor»)) where
+    line-refusal : firstNumber (refusalOf q) (refusalOf o) (refusalOf p) ≡ lineRefusal line
+    line-refusal =
+        rw (
+          is-q,
+          is-o,
+          is-p,
+          conversion-numbers quantityLimit (line .quantity) .0,
+          conversion-numbers factorLimit (line .«operation_factor») .0,
+          conversion-numbers factorLimit (line .«provision_factor») .0,
+        )
+        (sym refusal-by-cells)
+
+    -- a refused line
+    pub line-refused : (r : ℕ) → r ≡ firstNumber (refusalOf q) (refusalOf o) (refusalOf p) → (r ≡ 0 → ⊥)
+        → record { refusal = r; quantity = 0; «operation_factor» = 0; «provision_factor» = 0 } ≡ convertedLine line
+    line-refused r is ne =
+        let same = is ∙ line-refusal in
+        let refused : lineRefusal line ≡ 0 → ⊥ = λ e. ne (same ∙ e) in
+        rw (
+          same,
+          refused-old (lineRefusal line) (cellValue (line .quantity)) 0 refused,
+          refused-old (lineRefusal line) (cellValue (line .«operation_factor»)) 0 refused,
+          refused-old (lineRefusal line) (cellValue (line .«provision_factor»)) 0 refused,
+        )
+
+    -- an accepted one
+    pub line-converted : (r : ℕ) → r ≡ firstNumber (refusalOf q) (refusalOf o) (refusalOf p) → r ≡ 0
+        → record { refusal = 0; quantity = valueOf q; «operation_factor» = valueOf o; «provision_factor» = valueOf p } ≡ convertedLine line
+    line-converted r made none =
+        let is : lineRefusal line ≡ 0 = sym (made ∙ line-refusal) ∙ none in
+        let each = cells-accepted is in
+        rw (
+          is,
+          is-q,
+          is-o,
+          is-p,
+          value-accepted quantityLimit (line .quantity) (each .0),
+          value-accepted factorLimit (line .«operation_factor») (each .1),
+          value-accepted factorLimit (line .«provision_factor») (each .2),
+        )

@@ -1,0 +1,69 @@
+// What a double comes to. Nothing is worked out in doubles: the bits are taken apart, and the rest is whole numbers.
+ghost use mathlib.Core.Path.{_≡_};
+ghost use Prim.Native.Nat.{_≤_, _<_, _/_, _^_};
+ghost use lib.Ieee.{binary64, ofBits};
+ghost use Rattle.apportion.specs.Fractions.{over};
+ghost use Rattle.workbook.specs.declared.cells.Cell.the-variants.{Number};
+ghost use Rattle.workbook.specs.Cells.{quantityLimit, conversionOf};
+ghost use Rattle.workbook.specs.Inner.Steps.{fractionConversion};
+use crate::cells::Conversion;
+
+// The weights of the sign and of the leading digit in the bits of a double.
+const SIGN: u64 = 9_223_372_036_854_775_808;
+
+const LEADING: u64 = 4_503_599_627_370_496;
+
+// A double as a cell of its own: its thousandths, or 15.
+pub fn convert_double(x: f64, limit: u64) -> Conversion
+    requires { ⌜ limit ≤ quantityLimit ⌝ }
+    ensures { λ r. ⌜ r ≡ conversionOf limit (Number x) ⌝ }
+{
+    if x != x {
+        return Conversion::Refused(15);
+    }
+    convert_bits(f64::to_bits(x), limit)
+}
+
+// The same of the double with these bits. Those past the sign's weight are below zero; the sign's alone are negative zero. With a field
+// above 1074 a double is 2^52 or more, or is not finite.
+fn convert_bits(bits: u64, limit: u64) -> Conversion
+    requires { ⌜ limit ≤ quantityLimit ⌝ }
+    ensures { λ r. ⌜ r ≡ conversionOf limit (Number (ofBits binary64 bits)) ⌝ }
+{
+    if bits > SIGN {
+        return Conversion::Refused(15);
+    }
+    let field = bits % SIGN / LEADING;
+    let digits = bits % LEADING;
+    if field > 1074 {
+        return Conversion::Refused(15);
+    }
+    if field == 0 {
+        return convert_fraction(digits, 1074, limit);
+    }
+    convert_fraction(LEADING + digits, 1075 - field, limit)
+}
+
+// The same of a fraction, digits / 2^places.
+fn convert_fraction(digits: u64, places: u64, limit: u64) -> Conversion
+    requires { ⌜ digits < 2 ^ 53 ⌝ }
+    requires { ⌜ limit ≤ quantityLimit ⌝ }
+    ensures { λ r. ⌜ r ≡ fractionConversion limit (over digits (2 ^ places)) ⌝ }
+{
+    if digits > 0 {
+        if shifted(digits - 1, places) >= limit {
+            return Conversion::Refused(15);
+        }
+    }
+    Conversion::Value((shifted(2000 * digits, places) + 1) / 2)
+}
+
+// n / 2^places, rounded down.
+fn shifted(n: u64, places: u64) -> u64
+    ensures { λ r. ⌜ r ≡ n / 2 ^ places ⌝ }
+{
+    if places > 63 {
+        return 0;
+    }
+    n >> places
+}
