@@ -132,8 +132,8 @@ WRITTEN_OUT = (
     ("14 1 18446744073709551615", "bad record 1"),
     ("12 18446744073709551615 1", "bad record 1"),
     ("12 2999 18446744073709551615; 14 2999 1", "18446744073709551615"),
-    ("16; 1", "bad record 1"),
-    ("1; 16 1; 1", "0; bad record 2"),
+    ("18; 1", "bad record 1"),
+    ("1; 18 1; 1", "0; bad record 2"),
 )
 
 
@@ -174,12 +174,14 @@ class BothWays:
         state = self.player.state
         before = list(state.words)
         words, after = before[:state.lent], before[state.lent:]
+        cells = state.cells
         arguments += (0,) * (7 - len(arguments))
         self.records.append(player.RECORD.pack(operation, *arguments))
         played = self.player.play(self.records[-1])
         if operation in player.CALLS:
             name = player.CALLS[operation]
-            arguments = player.used_arguments(name, arguments)
+            arguments = player.used_arguments(
+                name, player.with_cells(operation, arguments, cells))
             numbers = second_way(name, words, arguments)
             self.check(played == numbers, "the numbers by both ways", name,
                        arguments, played, numbers)

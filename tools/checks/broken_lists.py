@@ -8,6 +8,8 @@ of programs that go wrong.
 
 from calculation import calls, player
 from calculation.book import AMOUNTS, ELEMENTS, Book, word
+from calculation.workbook import converted, values_of
+from cases.line_writer import line_records, single, span
 from checks.conservation_checks import CHAINS, FED, Broken, check_list
 
 
@@ -371,12 +373,20 @@ WEIGHED = tuple((*record, *[0] * (8 - len(record))) for record in (
     (player.STATEMENT, 3)))
 
 
+def packed(record):
+    """The bytes of a record; the cells of a line come before it."""
+    own = (line_records(*record[1:]) if record[0] == player.LINE
+           else [record])
+    return b"".join(player.RECORD.pack(*words, *[0] * (8 - len(words)))
+                    for words in own)
+
+
 def played_wrongly(records, name, act):
     """The lines of a program that does this for the call."""
     right = calls.CALLS[name]
     calls.CALLS[name] = right._replace(act=act)
     try:
-        data = b"".join(player.RECORD.pack(*record) for record in records)
+        data = b"".join(map(packed, records))
         return player.play(data).decode("ascii").splitlines()
     finally:
         calls.CALLS[name] = right
