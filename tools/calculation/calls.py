@@ -1,7 +1,7 @@
 """The calls of the book: their grounds, and what an accepted one does.
 
-Written from document 01 and from document 02's weighed passengers. Sentences
-in quotation marks are their own.
+Written from document 01 and from document 02's weighed passengers and lines.
+Sentences in quotation marks are their own.
 
 A call gets the words of the lent slice, reads the records out of them and,
 when it is accepted, writes into them.
@@ -19,6 +19,8 @@ from calculation.book import (
 from calculation.closing import (
     INTENSITY_CODES, MOST_INTENSITY, Sums, divisors, intensity_of,
     is_without_weight, shares_by_number)
+from calculation.workbook import (
+    LIMITS, converted, is_exchanged, is_unusable)
 
 # Refusal numbers.
 ACCEPTED = 0
@@ -33,6 +35,8 @@ FULL = 8
 NO_WEIGHT = 9
 OVER_LIMIT = 10
 MIXED = 14
+UNUSABLE_CELL = 15
+EXCHANGED_SPAN = 16
 
 
 # The grounds of each call: every number that holds, in checking order, so
@@ -93,6 +97,27 @@ def grounds_of_post(book, category, group, quantity, operation_factor,
                                          provision_factor)
     if would_pass_emissions(book, operation, provision):
         yield OVER_LIMIT
+
+
+def grounds_of_line(words, category, group, *cells):
+    """"cell by cell from the left and 15 before 16 within a cell, before the
+    post's own checks", so before ground 1.
+
+    A cell that is refused has no number; 0 stands for it in the post.
+    """
+    numbers = []
+    for cell, limit in zip(cells, LIMITS):
+        refusals = list(grounds_of_cell(cell, limit))
+        yield from refusals
+        numbers.append(0 if refusals else converted(cell))
+    yield from grounds_of_post(words, category, group, *numbers)
+
+
+def grounds_of_cell(cell, limit):
+    if is_unusable(cell, limit):
+        yield UNUSABLE_CELL
+    if is_exchanged(cell):
+        yield EXCHANGED_SPAN
 
 
 @with_ground_1
@@ -242,6 +267,11 @@ def post(words, category, group, quantity, operation_factor,
                                          provision, struck=0))]
 
 
+def line(words, category, group, *cells):
+    # "The line is then posted to a stated category and group."
+    return post(words, category, group, *map(converted, cells))
+
+
 def strike(words, entry):
     # "sets its struck word"
     words[word(ENTRIES, entry, "struck")] = 1
@@ -325,6 +355,7 @@ CALLS = {
     "fresh": Call(0, grounds_of_fresh, fresh, 0),
     "open": Call(1, grounds_of_open, open_category, 1),
     "post": Call(5, grounds_of_post, post, 1),
+    "line": Call(5, grounds_of_line, line, 1),
     "strike": Call(1, grounds_of_strike, strike, 0),
     "enrol": Call(6, grounds_of_enrol, enrol, 1),
     "quote": Call(6, grounds_of_quote, quote, 1),

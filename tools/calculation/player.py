@@ -7,7 +7,8 @@ A record is 64 bytes: eight little-endian 64-bit words, the operation and
 seven arguments. An operation ignores the arguments that it does not use.
 
 The bytes of a file that is to be loaded come in the records after the one
-that says so, the last of them padded to a whole record.
+that says so, the last of them padded to a whole record. The cells of a line
+come in the records before it.
 """
 
 import os
@@ -24,6 +25,7 @@ MOST_LISTED = 300  # room in the list of weights, and the longest share slice
 UNWRITTEN = 7      # what every word of a share slice holds before the call
 MOST_WORDS = 3000  # the array that the book lies in
 MOST_BYTES = 16_448  # of a file: one record more than a file may have
+MOST_CELLS = 3     # room in the list of cells: those of a line
 
 
 class BadRecord(Exception):
@@ -38,6 +40,7 @@ class State:
         self.words = [0] * MOST_WORDS
         self.lent = MOST_WORDS  # how many of the words a call gets
         self.file = None        # the file whose bytes are still coming
+        self.cells = ()         # those listed for the next line
 
 
 class ComingFile:
@@ -63,6 +66,12 @@ def used_arguments(name, arguments):
     return arguments[:calls.CALLS[name].arguments]
 
 
+def with_cells(operation, arguments, cells):
+    """The arguments of an operation; a line's are two of the seven and the
+    listed cells."""
+    return (*arguments[:2], *cells) if operation == LINE else arguments
+
+
 def call_of_book(name):
     """The operation that makes a call on the lent words."""
     def operation(state, arguments):
@@ -71,6 +80,30 @@ def call_of_book(name):
         state.words[:state.lent] = lent
         return numbers
     return operation
+
+
+def cell_of(arguments):
+    """The cell of a form and the bits of two doubles."""
+    form, *bits = arguments[:3]
+    if form > 2:
+        raise BadRecord
+    return tuple(bits[:form])
+
+
+def list_cell(state, arguments):
+    if len(state.cells) == MOST_CELLS:
+        raise BadRecord
+    state.cells += (cell_of(arguments),)
+    return None
+
+
+def line(state, arguments):
+    """Makes the call, and no cells are listed after it."""
+    if len(state.cells) != MOST_CELLS:
+        raise BadRecord
+    arguments = with_cells(LINE, arguments, state.cells)
+    state.cells = ()
+    return call_of_book("line")(state, arguments)
 
 
 def divide(state, arguments):
@@ -146,6 +179,8 @@ POKE = 12
 LEND = 13
 DUMP = 14
 LOAD = 15
+CELL = 16
+LINE = 17
 
 # The operations that are calls of a book.
 CALLS = {
@@ -158,6 +193,7 @@ CALLS = {
     CLOSE: "close",
     STATEMENT: "statement",
     INTENSITY: "intensity",
+    LINE: "line",
 }
 
 OPERATIONS = {
@@ -168,6 +204,8 @@ OPERATIONS = {
     LEND: lend,
     DUMP: dump,
     LOAD: load,
+    CELL: list_cell,
+    LINE: line,
 }
 
 

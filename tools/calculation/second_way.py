@@ -1,10 +1,13 @@
 """The rules of document 01 once more, and those of document 02's weighed
-passengers, by other means; the checks compare.
+passengers and lines, by other means; the checks compare.
 
 The dividing rule hands out its units one at a time, soundness goes through
-the words with running sums, and the calls work on lists beside the book.
+the words with running sums, the calls work on lists beside the book, and the
+doubles of a line are compared as doubles and rounded as decimal numbers.
 """
 
+import struct
+from decimal import ROUND_HALF_UP, Decimal
 from fractions import Fraction
 
 EMISSIONS = 10 ** 18
@@ -12,13 +15,20 @@ ACTIVITY = 10 ** 17
 INTENSITY = 10 ** 15
 
 # The numbers of "Grounds, in checking order", which are not in order of size
-# once a request puts one between others. The cases go by this list too; the
+# once a request puts one between others. A ground of a cell is its number
+# with the cell's place in the line. The cases go by this list too; the
 # calculation has the order in its tests, and nothing from here.
-CHECKING_ORDER = (1, 2, 3, 4, 5, 6, 14, 7, 8, 9, 10, 11, 12, 13)
+CHECKING_ORDER = ((15, 1), (16, 1), (15, 2), (16, 2), (15, 3), (16, 3),
+                  1, 2, 3, 4, 5, 6, 14, 7, 8, 9, 10, 11, 12, 13)
 
 
-def in_checking_order(numbers):
-    return sorted(numbers, key=CHECKING_ORDER.index)
+def in_checking_order(grounds):
+    return sorted(grounds, key=CHECKING_ORDER.index)
+
+
+def number_of(ground):
+    """The refusal number of a ground."""
+    return ground[0] if isinstance(ground, tuple) else ground
 
 
 # The dividing rule.
@@ -131,6 +141,38 @@ def is_sound_by_words(words):
                if words[3 + 2 * number] == 1)
 
 
+# The second way of cells: doubles, and decimal numbers.
+
+def doubles_of(cell):
+    return [struct.unpack("<d", struct.pack("<Q", bits))[0] for bits in cell]
+
+
+def cell_grounds(cells):
+    """Whether each ground of each cell holds. Python compares a double with a
+    whole number exactly; NaN is in no order."""
+    grounds = {}
+    for place, cell, limit in zip((1, 2, 3), cells, (10 ** 9, 10 ** 7,
+                                                     10 ** 7)):
+        doubles = doubles_of(cell)
+        grounds[15, place] = not doubles or not all(
+            0 <= double <= limit for double in doubles)
+        grounds[16, place] = len(doubles) == 2 and doubles[1] < doubles[0]
+    return grounds
+
+
+def refusal_of_cells(cells):
+    grounds = cell_grounds(cells)
+    return first(grounds) if any(grounds.values()) else 0
+
+
+def number_in(cell):
+    """The number of a cell that is not refused."""
+    # A double has an exact decimal value.
+    ends = [int(Decimal(double).quantize(Decimal("0.001"), ROUND_HALF_UP)
+                .scaleb(3)) for double in doubles_of(cell)]
+    return (ends[0] + ends[-1] + 1) // 2
+
+
 # The second way of the calls: lists beside the book, and running sums.
 
 class Lists:
@@ -213,6 +255,12 @@ class Lists:
         self.entries.append([category, group, *amounts, 0])
         self.sums = [old + new for old, new in zip(self.sums, amounts)]
         return 0, len(self.entries)
+
+    def line(self, category, group, *cells):
+        refusal = refusal_of_cells(cells)
+        if refusal != 0:
+            return refusal, 0
+        return self.post(category, group, *map(number_in, cells))
 
     def strike(self, number):
         if number == 0 or number > len(self.entries):
@@ -391,8 +439,8 @@ class Lists:
 
 def first(grounds):
     """The refusal number: the first ground that holds."""
-    return in_checking_order(
-        number for number, holds in grounds.items() if holds)[0]
+    return number_of(in_checking_order(
+        ground for ground, holds in grounds.items() if holds)[0])
 
 
 def second_way(name, words, arguments):
@@ -407,7 +455,10 @@ def second_way(name, words, arguments):
         KEPT[:] = words[:2660], lists_of(words)
     lists = KEPT[1]
     if lists is None:
-        # Open, post, enrol and quote give a number.
+        # The cells of a line come first.
+        if name == "line" and refusal_of_cells(arguments[2:]) != 0:
+            return [refusal_of_cells(arguments[2:]), 0]
+        # Open, post, line, enrol and quote give a number.
         return {"strike": [1], "close": [1], "intensity": [1, 0, 0],
                 "statement": [1, 0, 0, 0, 0, 0]}.get(name, [1, 0])
     numbers = getattr(lists, name)(*arguments)

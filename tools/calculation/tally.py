@@ -1,12 +1,14 @@
 """The tally: what the calls of a list came to, kept beside the book.
 
 Written from document 01, "Lists and the tally", and from document 02's
-weighed passengers. Sentences in quotation marks are their own. "The tally is
-kept beside the book and takes nothing from it. It is fed each call with its
-arguments and refusal number."
+weighed passengers and lines. Sentences in quotation marks are their own. "The
+tally is kept beside the book and takes nothing from it. It is fed each call
+with its arguments and refusal number."
 """
 
 from collections import namedtuple
+
+from calculation.workbook import converted
 
 Category = namedtuple("Category", "kind closed")
 Entry = namedtuple("Entry", "category group operation provision struck")
@@ -24,7 +26,8 @@ class Tally:
     of the three from 1 in order."
 
     Each is a dictionary by number. An accepted call that names a category or
-    an entry that is not there ends in a KeyError.
+    an entry that is not there ends in a KeyError, an accepted line with a cell
+    that has no number in a NoNumber.
     """
 
     def __init__(self):
@@ -49,6 +52,11 @@ class Tally:
         quantity × provision factor, not struck"."""
         add(self.entries, Entry(category, group, quantity * operation_factor,
                                 quantity * provision_factor, struck=False))
+
+    def line(self, category, group, *cells):
+        """"in the tally an accepted line is this post, of its converted
+        cells"."""
+        self.post(category, group, *map(converted, cells))
 
     def strike(self, entry):
         """"marks the entry it names as struck"."""

@@ -3,10 +3,10 @@
 import random
 from itertools import combinations
 
-from calculation.second_way import in_checking_order
+from calculation.second_way import CHECKING_ORDER, number_of
 from cases import (
     call_cases, closing_cases, conservation_cases, file_cases, intensity_cases,
-    random_cases, soundness_cases, statement_cases, weighed_cases)
+    line_cases, random_cases, soundness_cases, statement_cases, weighed_cases)
 from cases.book_writer import SORTS, BookCases
 
 SEED = 2404
@@ -16,6 +16,7 @@ ANSWERS = {
     "fresh": (0, 1),
     "open": (0, 1, 3, 8),
     "post": (0, 1, 2, 3, 4, 6, 7, 8, 10),
+    "line": (0, 15, 16, 1, 2, 3, 4, 6, 8, 10),
     "strike": (0, 1, 2, 4),
     "enrol": (0, 1, 2, 3, 4, 6, 14, 7, 8, 10),
     "quote": (0, 1, 3, 7, 8, 10),
@@ -28,10 +29,12 @@ ANSWERS = {
 # category that is not there is neither open nor closed nor of a kind and has
 # no sums, an entry that is not there is not struck, a group that is none of
 # its values is not 1 or 2, a code that is none of its values wants no F, S or
-# C, an intensity without its F, S or C has no result, and passengers that do
-# not suit a category have no earlier ones there.
+# C, an intensity without its F, S or C has no result, passengers that do not
+# suit a category have no earlier ones there, and a line without a quantity has
+# no amounts.
 NEVER_BOTH = {
     "post": ((2, 4), (2, 6), (3, 6)),
+    "line": ((2, 4), (2, 6), (3, 6), ((15, 1), 10), ((16, 1), 10)),
     "strike": ((2, 4),),
     "enrol": ((2, 4), (2, 6), (2, 14), (6, 14)),
     "close": ((2, 4), (2, 9)),
@@ -39,11 +42,17 @@ NEVER_BOTH = {
 }
 
 
+def grounds_of(numbers):
+    """The grounds of refusal numbers in checking order: those of a cell are
+    there for each cell of a line."""
+    return [ground for ground in CHECKING_ORDER if number_of(ground) in numbers]
+
+
 def pairs_of_grounds():
     """(call, ground, later ground) for all that can hold at once."""
     return [(name, one, other)
             for name, numbers in ANSWERS.items()
-            for one, other in combinations(in_checking_order(numbers[1:]), 2)
+            for one, other in combinations(grounds_of(numbers), 2)
             if (one, other) not in NEVER_BOTH.get(name, ())]
 
 
@@ -93,6 +102,7 @@ def add(plain_cases):
     statement_cases.add(cases)
     soundness_cases.add(cases, rng)
     weighed_cases.add(cases)
+    line_cases.add(cases)
     add_random(cases, lambda: random_cases.add(cases, rng))
     add_long_lists(cases, possible)
     file_cases.add(cases)

@@ -3,6 +3,7 @@
 from calculation import book, closing, player
 from calculation.book import CATEGORIES, ELEMENTS, ENTRIES, word
 from cases import file_writer
+from cases.line_writer import line_records, single
 
 LARGEST = 2 ** 64 - 1
 EMISSIONS = 10 ** 18     # the limits of ground 10
@@ -67,7 +68,7 @@ class BookCases:
     def call(self, name, *arguments, gives=0, shows=None):
         """Makes a call; `gives` is its refusal number, None for any, and
         `shows` what else its answer is known to be, None for unknown."""
-        numbers = self.cases.record(OPERATIONS[name], *arguments)
+        numbers = self.play_call(name, arguments)
         if gives is not None and numbers[0] != gives:
             raise AssertionError("%s%r gives %d, not %d"
                                  % (name, arguments, numbers[0], gives))
@@ -79,6 +80,15 @@ class BookCases:
             count(self.closings, sort_of_closing(self.words, arguments[0]))
         return numbers
 
+    def play_call(self, name, arguments):
+        """The numbers that the call prints; the cells of a line are listed
+        before it."""
+        if name == "line":
+            records = line_records(*arguments)
+        else:
+            records = [(OPERATIONS[name], *arguments)]
+        return [self.cases.record(*record) for record in records][-1]
+
     def fresh(self, gives=0):
         return self.call("fresh", gives=gives)
 
@@ -87,6 +97,9 @@ class BookCases:
 
     def post(self, *arguments, gives=0):
         return self.call("post", *arguments, gives=gives)
+
+    def line(self, *arguments, gives=0):
+        return self.call("line", *arguments, gives=gives)
 
     def strike(self, entry, gives=0):
         return self.call("strike", entry, gives=gives)
@@ -148,6 +161,7 @@ class BookCases:
         category 1 is open and of kind 1 or 3."""
         self.open(3, gives=gives)
         self.post(1, 2, 3, 4, 5, gives=gives)
+        self.line(1, 0, *map(single, (0.006, 0.007, 0.008)), gives=gives)
         self.strike(1, gives=gives)
         self.enrol(1, 7, 2, 8, 9, gives=gives)
         self.quote(10_000, 1, 11, 12, 13, 14, gives=gives)

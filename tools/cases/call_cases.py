@@ -6,8 +6,9 @@ is meant to test.
 
 from calculation import book, calls, player
 from calculation.book import CATEGORIES, ELEMENTS, ENTRIES
-from calculation.second_way import in_checking_order
+from calculation.second_way import in_checking_order, number_of
 from cases.book_writer import FAR, FARTHEST, LARGEST, count
+from cases.line_writer import bits, single
 
 
 # Before fresh, and the lent slice.
@@ -16,6 +17,7 @@ def before_fresh(cases):
     """An array of zeros is no sound book."""
     cases.open(1, gives=1)
     cases.post(1, 0, 1, 1, 1, gives=1)
+    cases.line(1, 0, *[single(1.0)] * 3, gives=1)
     cases.strike(1, gives=1)
     cases.enrol(1, 1, 0, 1, 1, gives=1)
     cases.quote(1, 0, 1, 1, 1, 1, gives=1)
@@ -86,6 +88,9 @@ def unused_arguments(cases):
     rest = (LARGEST, 1, 2, 3, 4, 5, 6)
     for operation, *arguments in (
         (player.FRESH,), (player.OPEN, 3), (player.POST, 1, 0, 5, 6, 7),
+        (player.CELL, 1, bits(0.25)), (player.CELL, 2, bits(0.5), bits(1.0)),
+        (player.CELL, 1, 0), (player.LINE, 1, 0), (player.CELL, 0),
+        (player.CELL, 1, 0), (player.CELL, 1, 0), (player.LINE, 1, 0),
         (player.STRIKE, 1), (player.ENROL, 1, 1, 100, 2, 3, 75),
         (player.QUOTE, 1, 1, 1, 1, 1, 1), (player.CLOSE, 1),
         (player.STATEMENT, 1), (player.INTENSITY, 1, 100),
@@ -439,22 +444,25 @@ def in_order(cases, name, arguments, faults):
     call = calls.CALLS[name]
     grounds = list(call.grounds(cases.words, *arguments))
     wanted = in_checking_order(faults)
-    if grounds != wanted:
+    if grounds != list(map(number_of, wanted)):
         raise AssertionError("%s%r has the grounds %r, not %r"
                              % (name, arguments, grounds, wanted))
     cases.call(name, *arguments, gives=grounds[0])
-    note_pairs(cases, name, grounds)
+    note_pairs(cases, name, wanted)
 
 
-def in_order_after_1(cases, name, arguments, faults):
-    """The same call on a book with a wrong word, and on a short slice."""
+def in_order_with_1(cases, name, arguments, faults):
+    """The same call on a book with a wrong word, and on a short slice. Only
+    the grounds of a cell come before 1."""
+    grounds = in_checking_order({1, *faults})
+    gives = number_of(grounds[0])
     cases.poke(0, book.MARK + 1)
-    cases.call(name, *arguments, gives=1)
+    cases.call(name, *arguments, gives=gives)
     cases.poke(0, book.MARK)
     cases.lend(2659)
-    cases.call(name, *arguments, gives=1)
+    cases.call(name, *arguments, gives=gives)
     cases.lend(player.MOST_WORDS)
-    note_pairs(cases, name, [1] + in_checking_order(faults))
+    note_pairs(cases, name, grounds)
 
 
 def note_pairs(cases, name, grounds):
@@ -464,14 +472,15 @@ def note_pairs(cases, name, grounds):
 
 
 def try_in_order(cases, name, combinations):
-    """Every combination with a fault; some of them after 1 too."""
+    """Every combination with a fault; some of them with 1 too."""
     for arguments, faults in combinations:
         if not faults:
             continue
         in_order(cases, name, arguments, faults)
-        shown = [fault for fault in faults if (name, 1, fault) in cases.pairs]
+        shown = [fault for fault in faults
+                 if (name, *in_checking_order((1, fault))) in cases.pairs]
         if len(faults) == 1 or len(shown) < len(faults):
-            in_order_after_1(cases, name, arguments, faults)
+            in_order_with_1(cases, name, arguments, faults)
 
 
 def order_of_open(cases):
@@ -501,7 +510,7 @@ def order_of_strike(cases):
     try_in_order(cases, "strike", [
         ((0,), {2}), ((5,), {2}), ((2,), {4}), ((3,), {4}), ((4,), {4})])
     for entry in (2, 3, 4):
-        in_order_after_1(cases, "strike", (entry,), {4})
+        in_order_with_1(cases, "strike", (entry,), {4})
     cases.dump_all()
 
 

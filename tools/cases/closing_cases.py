@@ -6,7 +6,7 @@ Where the shares are given, they are reckoned by hand.
 from calculation import book, player
 from calculation.book import CATEGORIES, ELEMENTS, ENTRIES, word
 from cases.book_writer import EMISSIONS, FAR, FARTHEST, LARGEST
-from cases.call_cases import in_order_after_1, try_in_order
+from cases.call_cases import in_order_with_1, try_in_order
 
 MASS = 10 ** 9   # the largest mass
 HEADS = 10 ** 6  # the most heads
@@ -543,7 +543,7 @@ def order_of_close(cases):
                     ((LARGEST,), {2})]
     try_in_order(cases, "close", combinations)
     for arguments, faults in combinations[3:5]:
-        in_order_after_1(cases, "close", arguments, faults)
+        in_order_with_1(cases, "close", arguments, faults)
     cases.dump_all()
 
 

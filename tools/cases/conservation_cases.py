@@ -32,18 +32,18 @@ PLANS = (
 
 # How many calls of a sort are accepted at most, and between which hundredths
 # of the list, so that the book grows nearly to the end of it. Enrolments and
-# quotes count together.
+# quotes count together, and so do posts and lines.
 PACE = {
     "open": (16, 0, 60),
     "post": (64, 0, 80),
     "strike": (20, 5, 90),
     "enrol": (256, 0, 85),
-    "close": (12, 12, 95),
+    "close": (14, 12, 95),
 }
 
 
 def paced(name):
-    return "enrol" if name == "quote" else name
+    return {"quote": "enrol", "line": "post"}.get(name, name)
 
 
 class RandomList:
@@ -83,7 +83,7 @@ class RandomList:
 
     def misplaced(self, name, arguments):
         """The same in another category, which it may not suit."""
-        if name in ("post", "enrol"):
+        if name in ("post", "line", "enrol"):
             other = 1 + self.rng.randrange(CATEGORIES.most)
             return name, (other, *arguments[1:])
         return name, arguments

@@ -6,7 +6,7 @@ Where a result is given, it is reckoned by hand.
 from calculation.book import AMOUNTS, ELEMENTS, ENTRIES, word
 from calculation.closing import INTENSITY_CODES
 from cases.book_writer import EMISSIONS, FAR, FARTHEST, LARGEST
-from cases.call_cases import in_order_after_1, try_in_order
+from cases.call_cases import in_order_with_1, try_in_order
 from cases.closing_cases import HEADS, MASS, category
 
 MOST = 10 ** 15  # the limit of ground 10
@@ -336,7 +336,7 @@ def order_of_intensity(cases):
                          for code in (3, 99, 101, LARGEST)]
     try_in_order(cases, "intensity", combinations)
     for arguments, faults in (((2, 0), {5, 10}), ((1, 1), {5, 9})):
-        in_order_after_1(cases, "intensity", arguments, faults)
+        in_order_with_1(cases, "intensity", arguments, faults)
     cases.dump_all()
 
 

@@ -4,6 +4,8 @@ from calculation import book
 from calculation.book import CATEGORIES, ELEMENTS, ENTRIES
 from calculation.closing import INTENSITY_CODES
 from cases.book_writer import FARTHEST, LARGEST
+from cases.line_writer import bits
+from cases.random_cells import any_cell
 
 LARGE = 64  # the scale of measures that soon meet the limits of ground 10
 
@@ -30,6 +32,15 @@ def random_measure(rng, numbers, scale):
     else:
         number = numbers[0] + by_bits(rng, numbers[-1].bit_length())
     return max(numbers[0], min(number, numbers[-1], 2 ** scale))
+
+
+def random_cell(rng, numbers, scale):
+    """A cell of a measure in thousandths and sixteenths of one; every fourth
+    is a span."""
+    ends = sorted(min(16 * random_measure(rng, numbers, scale)
+                      + rng.randrange(16), 16 * numbers[-1])
+                  for _ in range(2 if rng.randrange(4) == 0 else 1))
+    return tuple(bits(end / 16_000) for end in ends)
 
 
 def random_kg_per_head(words, rng, category, code, strange=16):
@@ -64,15 +75,18 @@ def random_call(cases, rng, scale, scale_of_posts=None):
     def measure_of_post(numbers):
         return random_measure(rng, numbers, scale_of_posts or scale)
 
+    def cell(numbers):
+        return random_cell(rng, numbers, scale_of_posts or scale)
+
     words = cases.words
     category = 1 + rng.randrange(max(1, words[1] % 17))
     kind = words[book.place(CATEGORIES, category)]
     chain = one_of(rng, (1, 2, 3, 10_000, 1 + rng.randrange(10_000)))
-    sort = rng.randrange(118)
+    group = 0 if kind == 2 else one_of(rng, (0, 0, 1, 2))
+    sort = rng.randrange(126)
     if sort < 4:
         return "open", (one_of(rng, (1, 2, 3, 3, 4)),)
     if sort < 26:
-        group = 0 if kind == 2 else rng.randrange(3)
         return "post", (category, group, measure_of_post(book.QUANTITIES),
                         measure_of_post(book.FACTORS),
                         measure_of_post(book.FACTORS))
@@ -93,6 +107,9 @@ def random_call(cases, rng, scale, scale_of_posts=None):
         return "close", (category,)
     if sort < 110:
         return "intensity", (category, one_of(rng, INTENSITY_CODES))
+    if sort < 118:
+        return "line", (category, group, cell(book.QUANTITIES),
+                        cell(book.FACTORS), cell(book.FACTORS))
     return "statement", (chain,)
 
 
@@ -103,14 +120,20 @@ WILD = (0, 1, 2, 3, 4, 5, 15, 16, 17, 63, 64, 65, 99, 100, 101, 255, 256, 257,
         2 ** 32, 2 ** 32 + 1, 2 ** 63, LARGEST - 1, LARGEST)
 
 
+def wild_argument(rng, old):
+    """In the place of a cell another cell, of a number any other."""
+    if isinstance(old, tuple):
+        return any_cell(rng)
+    return by_bits(rng, 64) if rng.randrange(4) == 0 else one_of(rng, WILD)
+
+
 def wild_call(cases, rng, scales=(20, 30, LARGE)):
-    """A call with up to two arguments that are any numbers."""
+    """A call with up to two arguments that are anything."""
     name, arguments = random_call(cases, rng, one_of(rng, scales))
     arguments = list(arguments)
     for _ in range(rng.randrange(3)):
         place = rng.randrange(len(arguments))
-        arguments[place] = (by_bits(rng, 64) if rng.randrange(4) == 0
-                            else one_of(rng, WILD))
+        arguments[place] = wild_argument(rng, arguments[place])
     return name, arguments
 
 
@@ -118,7 +141,8 @@ def play_random(cases, rng, name, arguments):
     """Makes the call; now and then shows the record that it made."""
     numbers = cases.call(name, *arguments, gives=None)
     if numbers[0] == 0 and len(numbers) == 2 and rng.randrange(8) == 0:
-        listing = {"open": CATEGORIES, "post": ENTRIES}.get(name, ELEMENTS)
+        listing = {"open": CATEGORIES, "post": ENTRIES,
+                   "line": ENTRIES}.get(name, ELEMENTS)
         cases.dump_record(listing, numbers[1])
 
 

@@ -8,9 +8,11 @@ from calculation.second_loading import second_load
 from calculation.second_way import Lists, is_sound_by_words, second_way
 from cases import book_cases
 from cases.file_writer import load_records
+from cases.line_writer import (
+    BLANK, INFINITY, NANS, NEGATIVE_ZERO, SUBNORMAL, ZERO, bits, single, span)
 from checks import (
     broken_lists, closing_checks, conservation_checks, file_checks,
-    tally_checks)
+    line_checks, tally_checks)
 
 SEED = 64
 LARGEST = 2 ** 64 - 1
@@ -132,14 +134,14 @@ WRITTEN_OUT = (
     ("14 1 18446744073709551615", "bad record 1"),
     ("12 18446744073709551615 1", "bad record 1"),
     ("12 2999 18446744073709551615; 14 2999 1", "18446744073709551615"),
-    ("16; 1", "bad record 1"),
-    ("1; 16 1; 1", "0; bad record 2"),
+    ("18; 1", "bad record 1"),
+    ("1; 18 1; 1", "0; bad record 2"),
 )
 
 
 def written_out(check):
     for text, lines in (WRITTEN_OUT + closing_checks.WRITTEN_OUT
-                        + file_checks.WRITTEN_OUT):
+                        + file_checks.WRITTEN_OUT + line_checks.WRITTEN_OUT):
         data = b"".join(records.packed(line) for line in text.split(";"))
         output = "".join(line.strip() + "\n" for line in lines.split(";"))
         check(player.play(data) == output.encode("ascii"),
@@ -174,12 +176,14 @@ class BothWays:
         state = self.player.state
         before = list(state.words)
         words, after = before[:state.lent], before[state.lent:]
+        cells = state.cells
         arguments += (0,) * (7 - len(arguments))
         self.records.append(player.RECORD.pack(operation, *arguments))
         played = self.player.play(self.records[-1])
         if operation in player.CALLS:
             name = player.CALLS[operation]
-            arguments = player.used_arguments(name, arguments)
+            arguments = player.used_arguments(
+                name, player.with_cells(operation, arguments, cells))
             numbers = second_way(name, words, arguments)
             self.check(played == numbers, "the numbers by both ways", name,
                        arguments, played, numbers)
@@ -217,11 +221,19 @@ ANY = (0, 1, 2, 3, 4, 5, 16, 17, 64, 65, 99, 100, 101, 256, 301, 499, 500, 501,
        40_000_000, 40_000_001, 5 * 10 ** 8, 10 ** 9, 10 ** 9 + 1, 10 ** 10,
        10 ** 10 + 1, 10 ** 12, 10 ** 12 + 1, 2 ** 32, 2 ** 63, LARGEST)
 
-# The numbers an argument has most often, for each call.
+ANY_CELLS = (BLANK, span(2.0, 1.0), single(-1.0), single(1e7), span(0.0, 1e7),
+             single(1e8), single(1e9), (bits(1e9) + 1,), NANS[:1],
+             (SUBNORMAL,), (NEGATIVE_ZERO, ZERO), (bits(1.0), INFINITY))
+
+# The numbers and cells an argument has most often, for each call.
 USUAL = {
     "open": ((1, 2, 3, 4),),
     "post": ((1, 2, 3, 4), (0, 0, 1, 2), (1, 10 ** 6, 10 ** 9, 10 ** 12),
              (0, 1, 10 ** 6, 10 ** 7), (0, 1, 10 ** 6, 10 ** 7)),
+    "line": ((1, 2, 3, 4), (0, 0, 1, 2),
+             (single(0.001), span(0.5, 2.5), single(1e6), single(1e9)),
+             (single(-0.0), single(0.0625), single(1e3), span(0.0, 1e4)),
+             (single(0.0), single(0.0005), single(1e4), span(1.0, 1e3))),
     "strike": ((1, 2, 3, 5, 8, 13, 21, 34, 55),),
     "enrol": ((1, 2, 3, 4), (1, 2, 3, 10_000), (0, 1, 2, 100, 400, 1000),
               (1, 500, 10 ** 6, 10 ** 9, 10 ** 9),
@@ -233,18 +245,20 @@ USUAL = {
     "statement": ((1, 2, 3, 10_000),),
     "intensity": ((1, 2, 3, 4), (0, 1, 2, 100)),
 }
-APPENDING = ("open", "post", "post", "post", "strike", "enrol", "enrol",
+APPENDING = ("open", "post", "post", "line", "strike", "enrol", "enrol",
              "enrol", "enrol", "quote")
 NAMES = APPENDING * 5 + ("close",) + ("statement", "intensity") * 3
 
 
 def random_call(rng, strange, names=NAMES):
-    """A call; one argument in `strange` is any number."""
+    """A call; one argument in `strange` is any number or cell."""
     name = names[rng.randrange(len(names))]
     arguments = []
     for usual in USUAL[name]:
-        numbers = ANY if rng.randrange(strange) == 0 else usual
-        arguments.append(numbers[rng.randrange(len(numbers))])
+        choices = usual
+        if rng.randrange(strange) == 0:
+            choices = ANY_CELLS if isinstance(usual[0], tuple) else ANY
+        arguments.append(choices[rng.randrange(len(choices))])
     return name, arguments
 
 
@@ -284,6 +298,7 @@ def random_calls(check):
     # whose F is never so small here.
     for name, numbers in (
         ("open", (0, 3, 8)), ("post", (0, 2, 3, 4, 6, 7, 10)),
+        ("line", (0, 15, 16, 2, 3, 4, 6, 10)),
         ("strike", (0, 2, 4)), ("enrol", (0, 2, 3, 4, 6, 14, 7, 10)),
         ("quote", (0, 3, 7, 10)), ("close", (0, 2, 4, 9)),
         ("statement", (0, 3)), ("intensity", (0, 2, 3, 5, 9)),
@@ -321,8 +336,8 @@ def check_change(check, name, numbers, before, words, case):
               and 36 <= changed[0] < 356 and (changed[0] - 36) % 5 == 4,
               "a strike changes one struck word", case)
         return
-    count, start, size = {"open": (1, 4, 2), "post": (2, 36, 5)}.get(
-        name, (3, 356, 9))
+    count, start, size = {"open": (1, 4, 2), "post": (2, 36, 5),
+                          "line": (2, 36, 5)}.get(name, (3, 356, 9))
     check(numbers[1] == words[count] == before[count] + 1,
           "an append counts one more", case)
     place = start + (numbers[1] - 1) * size
@@ -388,7 +403,7 @@ def check_unsound(check, words):
     before = list(words)
     for name, arguments in (
         ("open", (1,)), ("open", (0,)), ("post", (1, 0, 0, 0, 0)),
-        ("strike", (0,)), ("enrol", (5, 1, 0, 1, 1, 0)), ("enrol", (0,) * 6),
+        ("line", (1, 0, *[single(0.0)] * 3)), ("strike", (0,)), ("enrol", (5, 1, 0, 1, 1, 0)), ("enrol", (0,) * 6),
         ("quote", (1, 0, 1, 1, 0, 0)), ("quote", (0,) * 6),
         ("close", (1,)), ("close", (0,)), ("statement", (1,)),
         ("statement", (0,)), ("intensity", (1, 0)), ("intensity", (0, 3)),
@@ -396,6 +411,10 @@ def check_unsound(check, words):
         numbers = calls.make(name, words, *arguments)
         check(numbers[0] == 1 and set(numbers[1:]) <= {0},
               "1 for an unsound book", name)
+    # The cells of a line come first.
+    for cell, number in ((BLANK, 15), (span(2.0, 1.0), 16)):
+        check(calls.make("line", words, 1, 0, single(1.0), single(1.0), cell)
+              == [number, 0], "a cell and an unsound book", cell)
     check(words == before, "a refused call changes no word")
     # Fresh takes any words.
     check(calls.make("fresh", before) == [0]
@@ -413,6 +432,10 @@ def lengths(check):
             check(calls.make("open", sound, 1) == [1, 0], "short", length)
             check(calls.make("quote", sound, 1, 0, 1, 1, 0, 0) == [1, 0],
                   "short", length)
+            check(calls.make("line", sound, 1, 0, *[single(0.0)] * 3)
+                  == [1, 0], "short", length)
+            check(calls.make("line", sound, 1, 0, *[BLANK] * 3) == [15, 0],
+                  "a blank cell in a short slice", length)
             check(calls.make("close", sound, 1) == [1], "short", length)
             check(calls.make("statement", sound, 1) == [1] + [0] * 5,
                   "short", length)
@@ -444,6 +467,9 @@ def full_lists(check):
             check(calls.make(name, words, *arguments) == [8, 0], "full", name)
             check(words == before, "a refused call changes no word")
     check(calls.make("enrol", words, 16, 1, 100, 1, 1) == [8, 0], "full")
+    for cell, number in ((single(1.0), 8), (BLANK, 15)):
+        check(calls.make("line", words, 16, 2, *[cell] * 3) == [number, 0],
+              "a line and a full list", cell)
     check(is_sound_by_words(words), "a full book")
 
 
@@ -451,6 +477,7 @@ def run(check):
     written_out(check)
     closing_checks.run(check)
     tally_checks.by_hand(check)
+    line_checks.run(check)
     lengths(check)
     full_lists(check)
     random_calls(check)

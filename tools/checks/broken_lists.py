@@ -8,6 +8,8 @@ of programs that go wrong.
 
 from calculation import calls, player
 from calculation.book import AMOUNTS, ELEMENTS, Book, word
+from calculation.workbook import nearest, values_of
+from cases.line_writer import line_records, single, span
 from checks.conservation_checks import CHAINS, FED, Broken, check_list
 
 
@@ -328,6 +330,38 @@ def enrol_unweighed(words, category, chain, code, amount, distance,
     return calls.enrol(words, category, chain, code, amount, distance)
 
 
+def line_rounded_down(words, category, group, *cells):
+    """Each double without what is left of a thousandth."""
+    return calls.post(words, category, group, *[
+        sum(int(1000 * value) for value in values_of(cell)) // len(cell)
+        for cell in cells])
+
+
+def line_by_exact_mean(words, category, group, *cells):
+    """A span by the mean of its ends as they are."""
+    return calls.post(words, category, group, *[
+        nearest(1000 * sum(values_of(cell)) / len(cell)) for cell in cells])
+
+
+def line_by_first_end(words, category, group, *cells):
+    return calls.line(words, category, group, *[cell[:1] for cell in cells])
+
+
+def line_with_factors_exchanged(words, category, group, quantity, operation,
+                                provision):
+    return calls.line(words, category, group, quantity, provision, operation)
+
+
+def line_to_all(words, category, group, *cells):
+    """The group is not kept."""
+    return calls.line(words, category, 0, *cells)
+
+
+def line_of_nothing(words, category, group, *cells):
+    """A record is made, and its amounts are 0."""
+    return calls.post(words, category, group, 0, 0, 0)
+
+
 def strike_nothing(words, entry):
     return []
 
@@ -350,6 +384,7 @@ def close_nothing(words, category):
 WRONG = {
     "close": (close_to_the_first, close_once, close_nothing),
     "strike": (strike_nothing,),
+    "line": (line_rounded_down, line_of_nothing),
     "quote": (quote_one_amount,),
     "statement": (statement_of_none_waiting,),
 }
@@ -363,12 +398,35 @@ WRONG_WHERE_WEIGHED = (
 
 # A 900, F 100, one head of 50 kg each of codes 100 and 400 over 1 m: 450, 90,
 # 360. By 100 kg per head it would be 300, 120, 480.
-WEIGHED = tuple((*record, *[0] * (8 - len(record))) for record in (
+WEIGHED = (
     (player.FRESH,), (player.OPEN, 3), (player.POST, 1, 0, 1, 900, 0),
     (player.ENROL, 1, 1, 0, 100, 1, 0), (player.ENROL, 1, 2, 100, 1, 1, 50),
     (player.ENROL, 1, 3, 400, 1, 1, 50), (player.CLOSE, 1),
     (player.DUMP, 356, 2304), (player.STATEMENT, 1), (player.STATEMENT, 2),
-    (player.STATEMENT, 3)))
+    (player.STATEMENT, 3))
+
+
+# Those that need certain cells.
+WRONG_LINES = (line_rounded_down, line_by_exact_mean, line_by_first_end,
+               line_with_factors_exchanged, line_to_all, line_of_nothing)
+
+# 1000 thousandths of 63 and of 1, the mean of 0 and 1; chilled, so that all of
+# it goes to the second element: 63,000 and 1000. 62.5 rounded down is 62, the
+# mean of 0 and 0.6 is 0.3.
+LINES = (
+    (player.FRESH,), (player.OPEN, 1),
+    (player.LINE, 1, 1, single(1.0), single(0.0625), span(0.0, 0.0006)),
+    (player.ENROL, 1, 1, 0, 100, 1, 0), (player.ENROL, 1, 2, 1, 300, 1, 0),
+    (player.CLOSE, 1), (player.DUMP, 356, 2304), (player.STATEMENT, 1),
+    (player.STATEMENT, 2))
+
+
+def packed(record):
+    """The bytes of a record; the cells of a line come before it."""
+    own = (line_records(*record[1:]) if record[0] == player.LINE
+           else [record])
+    return b"".join(player.RECORD.pack(*words, *[0] * (8 - len(words)))
+                    for words in own)
 
 
 def played_wrongly(records, name, act):
@@ -376,7 +434,7 @@ def played_wrongly(records, name, act):
     right = calls.CALLS[name]
     calls.CALLS[name] = right._replace(act=act)
     try:
-        data = b"".join(player.RECORD.pack(*record) for record in records)
+        data = b"".join(map(packed, records))
         return player.play(data).decode("ascii").splitlines()
     finally:
         calls.CALLS[name] = right
@@ -407,8 +465,25 @@ def wrong_where_weighed(check, lists):
                   act.__name__, "breaks", broken)
 
 
+def wrong_lines(check):
+    lines = played_wrongly(LINES, "line", calls.line)
+    check(broken_by(LINES, lines) is None, "the right program")
+    check(lines[-2:] == ["0 1 0 0 0 0", "0 1 0 63000 1000 64000"], "lines",
+          lines[-2:])
+    for act in WRONG_LINES:
+        lines = played_wrongly(LINES, "line", act)
+        check(broken_by(LINES, lines) is not None, act.__name__)
+    # Accepted, although a cell has no number.
+    for cell in ((), (0x7FF << 52,)):
+        record = *LINES[2][:5], cell
+        broken = broken_by((*LINES[:2], record), ["0", "0 1", "0 1"])
+        check(broken is not None and "a cell has no number" in broken,
+              "a cell without a number", broken)
+
+
 def run(check, lists):
     """A list is its records, its lines and what they told."""
     changed_lines(check, lists)
     wrong_programs(check, lists[0][0])
     wrong_where_weighed(check, lists)
+    wrong_lines(check)

@@ -17,11 +17,11 @@ from itertools import zip_longest
 
 sys.path.insert(0, os.path.dirname(os.path.dirname(os.path.abspath(__file__))))
 
-from calculation import player
 from cases import conservation_cases, make_cases
 from cases.book_writer import BookCases
 from checks import check_endings
-from checks.conservation_checks import Broken, check_list, lists_among
+from checks.conservation_checks import (
+    Broken, check_list, lists_among, printing)
 
 SEEDS = (1, 2, 3)
 
@@ -38,16 +38,15 @@ def broken_list(records, lines, spans):
 
 
 def first_difference(records, lines, wanted):
-    """The first number that is not the player's, or None. Each record of
-    these lists prints a line."""
-    for record, line, right in zip(records, lines, wanted):
+    """The first number that is not the player's, or None."""
+    for record, line, right in zip(printing(records), lines, wanted):
         if line != right:
             pairs = zip_longest(line.split(" "), right.split(" "))
             place, (number, right) = next(
                 (place, pair) for place, pair in enumerate(pairs, 1)
                 if pair[0] != pair[1])
             return "%r prints as number %d %s, not %s" % (
-                player.RECORD.unpack(record), place, number, right)
+                record, place, number, right)
     if len(lines) != len(wanted):
         return "%d lines, not %d" % (len(lines), len(wanted))
     return None

@@ -18,6 +18,7 @@ from calculation import player
 from cases import file_parts
 from cases.file_writer import (
     CHUNK, EXAMPLE, MOST_BYTES, cut_to, file_of, load_records, with_header)
+from cases.line_writer import BLANK, cell_arguments, single, span
 
 LARGEST = 2 ** 64 - 1
 SECONDS = 60  # the longest that the program may take for one input
@@ -172,9 +173,90 @@ def endings_in_files():
     return found
 
 
+def cell(some):
+    return record(player.CELL, *cell_arguments(some))
+
+
+# Three cells, and lines of them: to the open book, to a closed one and with a
+# cell that is refused.
+CELLS = cell(single(12.5)) + cell(span(3.1, 3.4)) + cell(single(0.0005))
+LINE = CELLS + record(player.LINE, 1, 0)
+OPEN_BOOK = record(player.FRESH) + record(player.OPEN, 1)
+LINES = (OPEN_BOOK + LINE * 2 + CELLS[:128] + cell(BLANK)
+         + record(player.LINE, 1, 0) + cell(span(2.0, 1.0)) + CELLS[64:]
+         + record(player.LINE, 1, 0) + LINE + dump(0, 52))
+
+
+def endings_in_lines():
+    """Pairs of a name and an input: lists of cells that are too long or too
+    short, forms that are none, and inputs that end within a list."""
+    found = []
+
+    def add(name, data):
+        found.append((name, data))
+
+    add("lines", LINES)
+    add("lines before fresh", LINE + BOOK + LINE)
+    add("lines after a book", BOOK + LINE + LINES + BOOK)
+    add("lines with 2659 words lent", record(player.LEND, 2659) + LINES)
+    add("cells around a book", CELLS[:64] + BOOK + CELLS[64:]
+        + record(player.LINE, 1, 0) + LINES)
+    add("cells around loads", OPEN_BOOK + CELLS[:64] + LOADS + CELLS[64:]
+        + record(player.LINE, 2, 0) + WORDS)
+    add("cells around a division", OPEN_BOOK + CELLS[:128] + THREE
+        + CELLS[128:] + weight(1) + record(player.LINE, 1, 0)
+        + division(5, 1) + dump(36, 5))
+    for count in range(1, 4):
+        listed = CELLS[:64 * count]
+        add("%d cells and no line" % count, listed)
+        add("%d cells after lines" % count, LINES + listed)
+        for left in (1, 8, 32, 63):
+            add("%d cells and %d bytes of one" % (count, left),
+                LINES + listed + CELLS[:left])
+            add("%d cells and %d bytes of a line" % (count, left),
+                LINES + listed + record(player.LINE, 1, 0)[:left])
+    # A fourth cell, whatever it is and whatever comes between.
+    for some in (BLANK, single(1.0), span(1.0, 2.0)):
+        add("a fourth cell %r" % (some,), CELLS + cell(some) + LINES)
+    add("a fourth cell after lines", LINES + CELLS + cell(BLANK) + LINES)
+    add("a fourth cell after a book", CELLS + BOOK + cell(BLANK) + LINES)
+    add("a fourth cell after a load",
+        CELLS + load(EXAMPLE) + cell(BLANK) + LINES)
+    # Fewer than three.
+    for count in range(3):
+        listed = OPEN_BOOK + CELLS[:64 * count]
+        for name, before in (("", listed), (" after lines", LINES + listed),
+                             (" after a load", listed + load(EXAMPLE))):
+            add("a line with %d cells%s" % (count, name),
+                before + record(player.LINE, 1, 0) + LINES)
+    add("a line after a refused one", OPEN_BOOK + cell(BLANK) * 3
+        + record(player.LINE, 1, 0) * 2 + LINES)
+    # Forms.
+    for form in (3, 4, 255, 256, 257, 2 ** 16 + 1, 2 ** 32, 2 ** 32 + 1,
+                 2 ** 32 + 2, 2 ** 63, 2 ** 63 + 1, LARGEST - 1, LARGEST):
+        wrong = record(player.CELL, form, 0, 0)
+        add("form %d" % form, wrong + LINES)
+        add("form %d as the third cell" % form,
+            LINES + CELLS[:128] + wrong + record(player.LINE, 1, 0) + LINES)
+        add("form %d as the fourth cell" % form, CELLS + wrong + LINES)
+    # Lines across the end of a chunk, and at the end of the input.
+    for chunk_end in (CHUNK, 2 * CHUNK):
+        for place in range(chunk_end - 4, chunk_end + 2):
+            before = OPEN_BOOK + HARMLESS * (place - 3)
+            add("a line from record %d" % place, before + LINE + dump(36, 5))
+            for count in range(4):
+                add("%d cells from record %d" % (count, place),
+                    before + LINE[:64 * count])
+                add("a line with %d cells from record %d" % (count, place),
+                    before + CELLS[:64 * count] + record(player.LINE, 1, 0))
+    add("3000 lines", OPEN_BOOK + (LINE + record(player.POKE, 2, 0)) * 3000
+        + dump(0, 41))
+    return found
+
+
 def endings():
     """Pairs of a name and an input."""
-    found = endings_in_files()
+    found = endings_in_files() + endings_in_lines()
 
     def add(name, data):
         found.append((name, data))
@@ -241,8 +323,8 @@ def endings():
         add("operation %d first" % number, record(number, 1, 1) + THREE)
         add("operation %d after a division" % number,
             THREE + record(number) + THREE)
-    # 16 is none; 15 takes the next record.
-    add("operation 16 after a book", BOOK + record(16, 1) + BOOK)
+    # 18 is none; 15 takes the next record.
+    add("operation 18 after a book", BOOK + record(18, 1) + BOOK)
     add("operation 15 after a book", BOOK + record(15, 1) + BOOK)
     add("a second closing", BOOK + record(player.CLOSE, 1) + dump(0, 47))
     add("a closing and an intensity of none",
@@ -279,7 +361,7 @@ def endings():
         add("%d bytes of a dump after a book" % left,
             BOOK + dump(0, 47)[:left])
         for operation in (player.OPEN, player.CLOSE, player.STATEMENT,
-                          player.INTENSITY):
+                          player.INTENSITY, player.CELL, player.LINE):
             add("%d bytes of call %d after a book" % (left, operation),
                 BOOK + record(operation, 1)[:left])
     add("cut short after an unknown operation",
@@ -343,6 +425,7 @@ def main(arguments):
             ("cut short in pieces of %d bytes" % size,
              THREE * 4 + THREE[:100], size),
             ("a book in pieces of %d bytes" % size, BOOK * 4, size),
+            ("lines in pieces of %d bytes" % size, LINES, size),
             ("loads in pieces of %d bytes" % size, LOADS, size),
             ("a file without its end in pieces of %d bytes" % size,
              load(EXAMPLE)[:-64], size),

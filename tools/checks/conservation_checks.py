@@ -1,18 +1,20 @@
 """Demand 3, checked from the printed lines of a list alone.
 
-A list is its records, each the operation and seven arguments, and the lines
-that were printed for them. It begins with fresh. After its last call the
+A list is its records, each the operation and its arguments, and the lines
+that were printed for them. The cells of a line are among its arguments, so
+that each record has a line. A list begins with fresh. After its last call the
 shares are dumped and statements are asked. The tally is fed the arguments of
 the records and the refusal numbers of the lines; no book is looked at.
 """
 
 from calculation import player
 from calculation.tally import Tally
+from calculation.workbook import NoNumber
 from checks.exact_shares import check_exact_shares
 
 # The calls that the tally is fed. Statements and intensities change nothing.
-FED = (player.OPEN, player.POST, player.STRIKE, player.ENROL, player.QUOTE,
-       player.CLOSE)
+FED = (player.OPEN, player.POST, player.LINE, player.STRIKE, player.ENROL,
+       player.QUOTE, player.CLOSE)
 
 # "chain (1 to 10,000)"
 CHAINS = range(1, 10_001)
@@ -72,6 +74,9 @@ class Told:
         except KeyError as missing:
             raise Broken("%s%r is accepted, the tally has no number %s"
                          % (name, arguments, missing)) from None
+        except NoNumber:
+            raise Broken("%s%r is accepted, a cell has no number"
+                         % (name, arguments)) from None
 
     def read_statement(self, chain, numbers):
         """What is known of every statement, also between the calls: the list
@@ -118,9 +123,23 @@ def read_list(records, lines):
 def lists_among(records, lines, spans):
     """The records and lines of each list among packed records and all their
     lines. A span is how many of both were before the list, and with it."""
-    return [([player.RECORD.unpack(record) for record in records[first:last]],
-             lines[first_line:last_line])
+    return [(printing(records[first:last]), lines[first_line:last_line])
             for (first, first_line), (last, last_line) in spans]
+
+
+def printing(records):
+    """The packed records that print a line: cells go to their line."""
+    found, cells = [], ()
+    for record in records:
+        operation, *arguments = player.RECORD.unpack(record)
+        if operation == player.CELL:
+            cells += (player.cell_of(arguments),)
+            continue
+        found.append((operation,
+                      *player.with_cells(operation, arguments, cells)))
+        if operation == player.LINE:
+            cells = ()
+    return found
 
 
 # The demand.

@@ -9,6 +9,7 @@ from cases import book_cases
 from cases.file_writer import table_records
 from checks.quay_runs import CALCULATED, ROOT, tells_difference, text_of
 from command import playing, refusals, sheets
+from command.calls import CALLS as CALLS_IN_WORDS
 
 STORED = os.path.join(ROOT, "crates", "replay", "stdin")
 
@@ -233,7 +234,8 @@ def each_call(check):
                   "a reason", line, words)
     given = {(call.split()[0], number) for _, call, number, *_ in CALLS}
     possible = {(name, number) for name, numbers in book_cases.ANSWERS.items()
-                for number in numbers if number > 1}
+                for number in numbers
+                if number > 1 and name in CALLS_IN_WORDS}
     check(given <= possible and {number for _, number in given}
           == {number for _, number in possible}, "every number", given)
 
@@ -344,29 +346,33 @@ def at_its_line(check):
 
 def every_stored_refusal(check):
     """Every refused call and every stopped file of the stored cases has a
-    reason, and every number that a call can give is among them."""
+    reason, and every number that a call can give is among them. Calls that
+    quay does not have are passed over."""
     with open(STORED, "rb") as file:
         data = file.read()
     played = player.Player()
     found = set()
     for start in range(0, len(data), player.RECORD.size):
         record = data[start:start + player.RECORD.size]
-        coming = played.state.file
+        coming, cells = played.state.file, played.state.cells
         numbers = played.play(record)
         operation, *arguments = player.RECORD.unpack(record)
         if coming is not None:
             if numbers is not None:
                 check_load(check, coming.data(), numbers)
-        elif operation in player.CALLS and numbers and numbers[0] > 1:
+        elif (player.CALLS.get(operation) in CALLS_IN_WORDS and numbers
+              and numbers[0] > 1):
             name = player.CALLS[operation]
-            arguments = player.used_arguments(name, arguments)
+            arguments = player.used_arguments(
+                name, player.with_cells(operation, arguments, cells))
             lines = list(refusals.of_call(
                 numbers[0], played.state.words[:played.state.lent], name,
                 arguments))
             check(len(lines) > 1, "a reason", name, arguments, lines)
             found.add((name, numbers[0]))
     possible = {(name, number) for name, numbers in book_cases.ANSWERS.items()
-                for number in numbers if number > 1}
+                for number in numbers
+                if number > 1 and name in CALLS_IN_WORDS}
     check(found == possible, "every number of every call",
           possible ^ found)
 

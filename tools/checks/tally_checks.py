@@ -1,6 +1,7 @@
 """Checks of the tally; book_checks.py makes them."""
 
 from calculation.tally import Category, Enrolled, Entry, Quoted, Tally
+from cases.line_writer import BLANK, single, span
 
 # Calls with their arguments and refusal numbers.
 FED = (
@@ -19,6 +20,15 @@ FED = (
     ("open", (2,), 0), ("enrol", (3, 8, 400, 2, 3, 75), 0),
     ("enrol", (3, 8, 100, 2, 3, 300), 0),
     ("close", (2,), 9), ("close", (1,), 0), ("close", (1,), 4),
+    # 500 of 63, and of 2, the mean of 1 and 2.
+    ("line", (2, 1, single(0.5), single(0.0625), span(0.001, 0.002)), 0),
+    ("line", (2, 1, single(0.5), BLANK, single(1.0)), 15),
+    ("line", (2, 1, single(0.5), span(2.0, 1.0), single(1.0)), 16),
+    ("line", (1, 0, single(0.5), single(1.0), single(1.0)), 4),
+    # 0.4 of a thousandth is none; struck as any entry.
+    ("line", (3, 0, single(-0.0), single(9.0), single(0.0004)), 0),
+    ("line", (3, 0, single(1.0), single(9.0), single(0.0004)), 0),
+    ("strike", (5,), 0),
 )
 
 
@@ -32,7 +42,10 @@ def by_hand(check):
                                3: Category(2, False)},
           "categories", tally.categories)
     check(tally.entries == {1: Entry(1, 0, 7000, 9000, True),
-                            2: Entry(2, 2, 10 ** 18, 0, False)},
+                            2: Entry(2, 2, 10 ** 18, 0, False),
+                            3: Entry(2, 1, 31_500, 1000, False),
+                            4: Entry(3, 0, 0, 0, False),
+                            5: Entry(3, 0, 9_000_000, 0, True)},
           "entries", tally.entries)
     check(tally.elements == {
         1: Enrolled(1, 7, 0, 20, 30, 600, 0),

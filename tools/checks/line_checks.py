@@ -1,0 +1,268 @@
+"""Checks of lines from the Wharf Sheet; book_checks.py makes them."""
+
+import random
+import struct
+
+import records
+from calculation import calls, workbook
+from calculation.second_way import cell_grounds, doubles_of, number_in
+from cases.line_writer import (
+    BLANK, INFINITY, LARGEST_FINITE, NANS, NEGATIVE_ZERO, NORMAL, SIGN,
+    SUBNORMAL, ZERO, bits, power_bits, single, span)
+from cases.random_cells import any_cell
+
+SEED = 17
+RANDOM_CELLS = 20_000
+
+# Inputs whose output is written out here, reckoned by hand.
+
+WRITTEN_OUT = (
+    # 12,500 of 3,220 and of 550, the mean of 400 and 700.
+    ("1; 2 1; 16 12.5; 16 3.22; 16 0.4..0.7; 17 1 2; 14 2 1; 14 36 6",
+     "0; 0 1; 0 1; 1; 1 2 40250000 6875000 0 0"),
+    # The same as bits: 12.5 is 25 × 2^-1. 1 and 2 are 1500 and 2 alone 2000;
+    # zeros of either sign.
+    ("1; 2 1; 16 1 4623226492472524800; 16 2 4607182418800017408 "
+     "4611686018427387904; 16 2; 17 1 0; 16 1 4623226492472524800 7; 16 -0.0;"
+     "16 0.0..-0.0; 17 1 0; 14 36 10",
+     "0; 0 1; 0 1; 0 2; 1 0 18750000 25000000 0 1 0 0 0 0"),
+    # Cells come before ground 1, good ones do not.
+    ("16 -; 16 1; 16 1; 17 1 0; 16 1; 16 2..1; 16 1; 17 1 0; 16 1; 16 1;"
+     "16 1; 17 1 0; 13 9; 16 1; 16 1; 16 1e7..1e8; 17 9 9",
+     "15 0; 16 0; 1 0; 15 0"),
+    # From the left: 16 and 15, 15 and 16. Within a cell 15 comes first.
+    ("1; 2 1; 16 2..1; 16 -; 16 1; 17 1 0; 16 -; 16 2..1; 16 1; 17 1 0;"
+     "16 1; 16 1; 16 1..-1; 17 1 0; 16 2e9..1; 16 1; 16 1; 17 1 0;"
+     "16 1; 16 1; 16 2..1; 17 9 9; 16 nan..1; 16 2..1; 16 1; 17 1 0;"
+     "16 1; 16 -inf; 16 1; 17 1 0; 16 1; 16 1..inf; 16 1; 17 1 0; 14 2 1",
+     "0; 0 1; 16 0; 15 0; 15 0; 15 0; 16 0; 15 0; 15 0; 15 0; 0"),
+    # The grounds of a post: 2, 3, 4, 6, and 10 with 10^12 × 10^10.
+    ("1; 2 1; 2 2; 16 1; 16 1; 16 1; 17 3 0; 16 1; 16 1; 16 1; 17 1 3; 16 1;"
+     "16 1; 16 1; 17 2 1; 16 1e9; 16 1e7; 16 0; 17 1 0; 5 1 1 0 1 1; 7 1;"
+     "16 0; 16 0; 16 0; 17 1 0; 16 1e9; 16 0; 16 1e3; 17 2 0; 16 0.001;"
+     "16 1e7; 16 0.0005; 17 2 0; 14 36 6",
+     "0; 0 1; 0 2; 2 0; 3 0; 6 0; 10 0; 0 1; 0; 4 0; 0 1; 10 0;"
+     "2 0 0 1000000000000000000 0 0"),
+    # Cells are kept while other operations are played, and gone after a line.
+    ("16 0.5; 1; 16 0.25; 2 1; 15 0; 12 2999 1; 16 2; 13 3000; 17 1 0;"
+     "14 36 5; 16 -; 16 1; 16 1; 17 1 0; 17 1 0",
+     "0; 0 1; 11 0 0; 0 1; 1 0 125000 1000000 0; 15 0; bad record 15"),
+    # A line is an entry like any other: a closing divides it, a strike takes
+    # it away. 63,000 and 1000.
+    ("1; 2 1; 16 1; 16 0.0625; 16 0..0.0006; 17 1 0; 16 1; 16 1; 16 1; 17 1 0;"
+     "4 2; 4 2; 5 1 7 0 1 1; 7 1; 8 7",
+     "0; 0 1; 0 1; 0 2; 0; 4; 0 1; 0; 0 1 0 63000 1000 64000"),
+    # Bad records.
+    ("16; 16; 16; 16; 1", "bad record 4"),
+    ("17; 1", "bad record 1"),
+    ("16; 17; 1", "bad record 2"),
+    ("16; 16; 17 1 0; 1", "bad record 3"),
+    ("1; 16 3 0; 1", "0; bad record 2"),
+    ("16 18446744073709551615 0; 1", "bad record 1"),
+    ("16 4294967297 0; 1", "bad record 1"),
+)
+
+
+# What a cell becomes.
+
+RECKONED = (
+    # 1.0, and 12.5, which is 1.5625 × 2^3.
+    ((0x3FF0000000000000,), 1000),
+    ((0x4029000000000000,), 12_500),
+    # 2^-4 is 62.5 thousandths; the double below it has a little less.
+    ((0x3FB0000000000000,), 63),
+    ((0x3FAFFFFFFFFFFFFF,), 62),
+    ((0x3FB0000000000001,), 63),
+    # 3 × 2^-4 is 187.5 thousandths.
+    ((0x3FC8000000000000,), 188),
+    ((0x3FC7FFFFFFFFFFFF,), 187),
+    # 0.0005 is 4,611,686,018,427,388 × 2^-63; 1000 times that is 96 × 2^-63
+    # above a half, which is 4,611,686,018,427,387,904 × 2^-63. The double
+    # below it is 904 × 2^-63 below.
+    ((0x3F40624DD2F1A9FC,), 1),
+    ((0x3F40624DD2F1A9FB,), 0),
+    # 2^-11 is 0.488 thousandths, 2^-10 is 0.977.
+    ((0x3F40000000000000,), 0),
+    ((0x3F50000000000000,), 1),
+    # 2/3, a little less: 666.67.
+    ((0x3FE5555555555555,), 667),
+    # The smallest double, the largest below 2^-1022, and both zeros.
+    ((0x0000000000000001,), 0),
+    ((0x000FFFFFFFFFFFFF,), 0),
+    ((0x0000000000000000,), 0),
+    ((0x8000000000000000,), 0),
+    # 2^29, 10^7 and 10^9.
+    ((0x41C0000000000000,), 536_870_912_000),
+    ((0x416312D000000000,), 10 ** 10),
+    ((0x41CDCD6500000000,), 10 ** 12),
+    # 63 and 188: 125.5. 63 and 63. 0 and 63: 31.5.
+    ((0x3FB0000000000000, 0x3FC8000000000000), 126),
+    ((0x3FB0000000000000, 0x3FB0000000000000), 63),
+    ((0x8000000000000000, 0x3FB0000000000000), 32),
+    # 62 and 63: 62.5.
+    ((0x3FAFFFFFFFFFFFFF, 0x3FB0000000000000), 63),
+    # 0 and 10^12, 1000 and 10^12.
+    ((0x0000000000000000, 0x41CDCD6500000000), 5 * 10 ** 11),
+    ((0x3FF0000000000000, 0x41CDCD6500000000), 500_000_000_500),
+    # 0 and 1, the second by 0.0005; 1 and 1.
+    ((0x3F40624DD2F1A9FB, 0x3F40624DD2F1A9FC), 1),
+    ((0x3F40624DD2F1A9FC, 0x3F40624DD2F1A9FC), 1),
+)
+
+# A cell, and whether 15 holds of it as a quantity, as a factor, and 16.
+GROUNDS = (
+    (BLANK, True, True, False),
+    (single(0.0), False, False, False), ((NEGATIVE_ZERO,), False, False, False),
+    ((SIGN | SUBNORMAL,), True, True, False), (single(-0.001), True, True, False),
+    (single(1e7), False, False, False), (single(1e9), False, True, False),
+    # 10^7 is 1.19 × 2^23, so the double after it is 2^-29 more; after 10^9
+    # it is 2^-23 more.
+    ((0x416312D000000001,), False, True, False),
+    ((0x41CDCD6500000001,), True, True, False),
+    ((0x41CDCD64FFFFFFFF,), False, True, False),
+    ((LARGEST_FINITE,), True, True, False), ((INFINITY,), True, True, False),
+    ((SIGN | INFINITY,), True, True, False),
+    *(((nan,), True, True, False) for nan in NANS),
+    *((cell, True, True, False) for nan in NANS
+      for cell in ((nan, ZERO), (ZERO, nan), (nan, nan))),
+    ((ZERO, NEGATIVE_ZERO), False, False, False),
+    ((NEGATIVE_ZERO, ZERO), False, False, False),
+    ((SUBNORMAL, ZERO), False, False, True),
+    ((SUBNORMAL, NEGATIVE_ZERO), False, False, True),
+    ((ZERO, SIGN | SUBNORMAL), True, True, True),
+    ((SIGN | SUBNORMAL, ZERO), True, True, False),
+    (span(1.0, 1.0), False, False, False), (span(1.0, 2.0), False, False, False),
+    (span(2.0, 1.0), False, False, True), (span(-2.0, -1.0), True, True, False),
+    (span(-1.0, -2.0), True, True, True), (span(1e7, 1e9), False, True, False),
+    (span(1e9, 1e7), False, True, True), (span(1e9, 1e10), True, True, False),
+    (span(1e10, 1e9), True, True, True),
+    ((NORMAL, NORMAL - 1), False, False, True),
+)
+
+
+def reckoned_by_hand(check):
+    for cell, thousandths in RECKONED:
+        check(workbook.converted(cell) == thousandths, "reckoned by hand",
+              cell, thousandths)
+        check(number_in(cell) == thousandths, "the second way", cell)
+    for cell, of_quantity, of_factor, exchanged in GROUNDS:
+        found = (workbook.is_unusable(cell, 10 ** 9),
+                 workbook.is_unusable(cell, 10 ** 7),
+                 workbook.is_exchanged(cell))
+        check(found == (of_quantity, of_factor, exchanged), "grounds", cell,
+              found)
+    for cell in (BLANK, (INFINITY,), NANS[:1], (ZERO, NANS[0])):
+        try:
+            workbook.converted(cell)
+            check(False, "a number of", cell)
+        except workbook.NoNumber:
+            check(True)
+
+
+def check_cell(check, cell):
+    """The grounds and the number by both ways, in each place."""
+    by_doubles = cell_grounds([cell] * 3)
+    for place, limit in enumerate(workbook.LIMITS, 1):
+        unusable = workbook.is_unusable(cell, limit)
+        check(unusable == by_doubles[15, place], "15 by both ways", cell)
+    if unusable:
+        return
+    check(workbook.is_exchanged(cell) == by_doubles[16, 1],
+          "16 by both ways", cell)
+    number = workbook.converted(cell)
+    check(number == number_in(cell), "the number by both ways", cell)
+    for double in doubles_of(cell):
+        check_nearest(check, double, workbook.converted((bits(double),)))
+
+
+def check_nearest(check, double, number):
+    """The number is less than half a thousandth below the double, or half a
+    thousandth or less above it; compared in whole numbers."""
+    above, below = double.as_integer_ratio()
+    check((2 * number - 1) * below <= 2000 * above < (2 * number + 1) * below,
+          "nearest, halves up", double, number)
+
+
+def powers_of_two(check):
+    for exponent in range(-1074, 1024):
+        double = power_bits(exponent)
+        check(doubles_of((double,)) == [2.0 ** exponent], "a power", exponent)
+        for cell in ((double,), (double - 1,), (double + 1,), (SIGN | double,),
+                     (double, double), (double - 1, double), (ZERO, double)):
+            check_cell(check, cell)
+
+
+def random_cells(check):
+    rng = random.Random(SEED)
+    good = 0
+    for _ in range(RANDOM_CELLS):
+        cell = any_cell(rng)
+        check_cell(check, cell)
+        good += not workbook.is_unusable(cell, 10 ** 9)
+    check(RANDOM_CELLS // 2 < good < 9 * RANDOM_CELLS // 10, "good ones", good)
+
+
+def whole_numbers(check):
+    """Exactly 1000 times each."""
+    rng = random.Random(SEED)
+    for value in (*range(2000), 10 ** 7 - 1, 10 ** 7, 10 ** 9 - 1, 10 ** 9,
+                  *(rng.randrange(10 ** 9) for _ in range(2000))):
+        check(workbook.converted(single(float(value))) == 1000 * value,
+              "a whole number", value)
+
+
+# Grounds that never hold.
+
+def never_out_of_range(check):
+    """A line whose cells are good has no ground 7; where one is not, it has 15
+    or 16 first."""
+    rng = random.Random(SEED)
+    words = [0] * 2660
+    calls.make("fresh", words)
+    calls.make("open", words, 1)
+    for _ in range(2000):
+        cells = [any_cell(rng) for _ in range(3)]
+        grounds = list(calls.grounds_of_line(words, 1, 0, *cells))
+        check(set(grounds) <= {15, 16, 10}, "grounds of a line", cells,
+              grounds)
+        check(10 not in grounds[:1] or grounds == [10], "10 last", cells)
+
+
+# Cells as people write them.
+
+WRITTEN_CELLS = (
+    ("-", (0,)), ("12.5", (1, 0x4029000000000000)),
+    ("2", (1, bits(2.0))), ("0", (1, 0)), ("1", (1, bits(1.0))),
+    ("-0.0", (1, SIGN)), ("+1.5", (1, bits(1.5))),
+    ("1e-3", (1, bits(0.001))), ("5e-324", (1, 1)), ("1E9", (1, bits(1e9))),
+    ("0.0005", (1, 0x3F40624DD2F1A9FC)), ("inf", (1, INFINITY)),
+    ("-inf", (1, SIGN | INFINITY)), ("1e400", (1, INFINITY)),
+    ("nan", (1, NANS[0])), ("3.1..3.4", (2, bits(3.1), bits(3.4))),
+    ("3..4", (2, bits(3.0), bits(4.0))), ("1..-1", (2, bits(1.0), bits(-1.0))),
+    ("0..inf", (2, 0, INFINITY)), ("2 0 0", (2, 0, 0)), ("2 5", (2, 5, 0)),
+    ("1 4623226492472524800", (1, 0x4029000000000000)), ("0 0", (0, 0)),
+    ("", (0,)),
+)
+NO_CELLS = ("x", "--", "..", "1..", "..2", "1..2..3", "1...2", ".5", "5.",
+            "1_0", "0x10", "1,5", "infinity", "1e", "- -", "1.5 0", "1 -")
+
+
+def written_cells(check):
+    for text, words in WRITTEN_CELLS:
+        wanted = struct.pack("<8Q", 16, *words, *[0] * (7 - len(words)))
+        check(records.packed("16 " + text) == wanted, "a cell in words", text)
+    for text in NO_CELLS:
+        try:
+            records.packed("16 " + text)
+            check(False, "a cell in words", text)
+        except ValueError:
+            check(True)
+
+
+def run(check):
+    reckoned_by_hand(check)
+    powers_of_two(check)
+    random_cells(check)
+    whole_numbers(check)
+    never_out_of_range(check)
+    written_cells(check)
