@@ -19,8 +19,7 @@ from calculation.book import (
 from calculation.closing import (
     INTENSITY_CODES, MOST_INTENSITY, Sums, divisors, intensity_of,
     is_without_weight, shares_by_number)
-from calculation.workbook import (
-    LIMITS, converted, is_exchanged, is_unusable)
+from calculation.workbook import LIMITS, converted, is_exchanged, is_unusable
 
 # Refusal numbers.
 ACCEPTED = 0
@@ -40,9 +39,10 @@ EXCHANGED_SPAN = 16
 
 
 # The grounds of each call: every number that holds, in checking order, so
-# that the first is the refusal number. Nothing is asked of a book after 1.
-# Where an earlier ground leaves a later one without a sense (the kind of a
-# category that is not there), the later one does not hold.
+# that the first is the refusal number; 15 and 16 once for each cell of a
+# line. Nothing is asked of a book after 1. Where an earlier ground leaves a
+# later one without a sense (the kind of a category that is not there), the
+# later one does not hold.
 
 def book_for_call(words):
     """The book, None for ground 1: the slice is shorter than the book "or,
@@ -346,8 +346,9 @@ def intensity(words, category, code):
     return [intensity_of(sums, code, amount) for amount in AMOUNTS]
 
 
-# The calls: how many arguments one takes, its grounds, what it does, and how
-# many numbers it answers beside the refusal number.
+# The calls: how many arguments one takes, the cells of a line among them, its
+# grounds, what it does, and how many numbers it answers beside the refusal
+# number.
 
 Call = namedtuple("Call", "arguments grounds act answers")
 

@@ -151,8 +151,8 @@ def cell_grounds(cells):
     """Whether each ground of each cell holds. Python compares a double with a
     whole number exactly; NaN is in no order."""
     grounds = {}
-    for place, cell, limit in zip((1, 2, 3), cells, (10 ** 9, 10 ** 7,
-                                                     10 ** 7)):
+    limits = 10 ** 9, 10 ** 7, 10 ** 7
+    for place, (cell, limit) in enumerate(zip(cells, limits), 1):
         doubles = doubles_of(cell)
         grounds[15, place] = not doubles or not all(
             0 <= double <= limit for double in doubles)
@@ -451,13 +451,15 @@ def second_way(name, words, arguments):
         for index in range(2660):
             words[index] = 0 if index > 0 else 14083
         return [0]
+    if name == "line":
+        # The cells come before the book.
+        refusal = refusal_of_cells(arguments[2:])
+        if refusal != 0:
+            return [refusal, 0]
     if words[:2660] != KEPT[0]:
         KEPT[:] = words[:2660], lists_of(words)
     lists = KEPT[1]
     if lists is None:
-        # The cells of a line come first.
-        if name == "line" and refusal_of_cells(arguments[2:]) != 0:
-            return [refusal_of_cells(arguments[2:]), 0]
         # Open, post, line, enrol and quote give a number.
         return {"strike": [1], "close": [1], "intensity": [1, 0, 0],
                 "statement": [1, 0, 0, 0, 0, 0]}.get(name, [1, 0])

@@ -4,8 +4,9 @@ from calculation import book
 from calculation.book import CATEGORIES, ELEMENTS, ENTRIES
 from calculation.closing import INTENSITY_CODES
 from cases.book_writer import FARTHEST, LARGEST
-from cases.line_writer import bits
-from cases.random_cells import any_cell
+from cases.line_writer import (
+    BLANK, INFINITY, LARGEST_FINITE, NANS, NEGATIVE_ZERO, NORMAL, SIGN,
+    SUBNORMAL, ZERO, bits)
 
 LARGE = 64  # the scale of measures that soon meet the limits of ground 10
 
@@ -34,15 +35,6 @@ def random_measure(rng, numbers, scale):
     return max(numbers[0], min(number, numbers[-1], 2 ** scale))
 
 
-def random_cell(rng, numbers, scale):
-    """A cell of a measure in thousandths and sixteenths of one; every fourth
-    is a span."""
-    ends = sorted(min(16 * random_measure(rng, numbers, scale)
-                      + rng.randrange(16), 16 * numbers[-1])
-                  for _ in range(2 if rng.randrange(4) == 0 else 1))
-    return tuple(bits(end / 16_000) for end in ends)
-
-
 def random_kg_per_head(words, rng, category, code, strange=16):
     """Weighed or not as the earlier passengers of the category; one in
     `strange` is the reverse, none where that is 0."""
@@ -65,6 +57,64 @@ def random_stated_mass(rng):
     return one_of(rng, (1, 50, 99, 100, 101, 300, 1 + rng.randrange(300),
                         1 + rng.randrange(300)))
 
+
+# Cells of lines.
+
+def random_cell(rng, numbers, scale):
+    """A measure in thousandths, with sixteenths of one; every fourth cell is
+    a span."""
+    ends = sorted(min(16 * random_measure(rng, numbers, scale)
+                      + rng.randrange(16), 16 * numbers[-1])
+                  for _ in range(2 if rng.randrange(4) == 0 else 1))
+    return tuple(bits(end / 16_000) for end in ends)
+
+
+NOTABLE = (ZERO, NEGATIVE_ZERO, SUBNORMAL, SIGN | SUBNORMAL, NORMAL,
+           bits(0.0005), bits(0.001), bits(0.0625), bits(1.0), bits(-1.0),
+           LARGEST_FINITE, INFINITY, SIGN | INFINITY, *NANS)
+
+
+def value_that_matters(rng):
+    """A limit, a half of a thousandth, a sixteenth, a thousandth or a whole
+    number."""
+    return one_of(rng, (
+        one_of(rng, (1e7, 1e9)), (2 * by_bits(rng, 40) + 1) / 2000,
+        by_bits(rng, 34) / 16, by_bits(rng, 40) / 1000,
+        float(by_bits(rng, 30))))
+
+
+def any_double(rng):
+    """Any bits, an exponent from 2^-13 to 2^30, or beside a value that
+    matters."""
+    sort = rng.randrange(12)
+    if sort == 0:
+        return rng.getrandbits(64)
+    if sort == 1:
+        return one_of(rng, NOTABLE)
+    if sort < 5:
+        return 1010 + rng.randrange(44) << 52 | rng.getrandbits(52)
+    return beside(rng, bits(value_that_matters(rng)))
+
+
+def beside(rng, double):
+    """The double, or one of those beside it."""
+    return max(0, min(double + rng.randrange(-2, 3), LARGEST))
+
+
+def any_cell(rng):
+    """Blank, a number or a span; most spans have the smaller double first."""
+    sort = rng.randrange(16)
+    if sort == 0:
+        return BLANK
+    first = any_double(rng)
+    if sort < 9:
+        return (first,)
+    second = beside(rng, first) if sort < 11 else any_double(rng)
+    # The bits of doubles above 0 are in the order of their values.
+    return tuple(sorted((first, second))) if sort < 15 else (first, second)
+
+
+# Calls.
 
 def random_call(cases, rng, scale, scale_of_posts=None):
     """A call with arguments in their ranges. Posts have the same scale when

@@ -403,7 +403,8 @@ def check_unsound(check, words):
     before = list(words)
     for name, arguments in (
         ("open", (1,)), ("open", (0,)), ("post", (1, 0, 0, 0, 0)),
-        ("line", (1, 0, *[single(0.0)] * 3)), ("strike", (0,)), ("enrol", (5, 1, 0, 1, 1, 0)), ("enrol", (0,) * 6),
+        ("line", (1, 0, *[single(0.0)] * 3)), ("strike", (0,)),
+        ("enrol", (5, 1, 0, 1, 1, 0)), ("enrol", (0,) * 6),
         ("quote", (1, 0, 1, 1, 0, 0)), ("quote", (0,) * 6),
         ("close", (1,)), ("close", (0,)), ("statement", (1,)),
         ("statement", (0,)), ("intensity", (1, 0)), ("intensity", (0, 3)),

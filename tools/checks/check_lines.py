@@ -21,8 +21,9 @@ sys.path.insert(0, os.path.dirname(os.path.dirname(os.path.abspath(__file__))))
 
 from calculation import player
 from calculation.book import ENTRIES, MARK, size
-from cases.line_writer import SIGN, ZERO, bits, line_records, power_bits, single
-from cases.random_cells import any_cell
+from cases.line_writer import (
+    SIGN, ZERO, bits, line_records, power_bits, single)
+from cases.random_cases import any_cell
 from checks import check_endings
 from checks.check_endings import dump, record
 
