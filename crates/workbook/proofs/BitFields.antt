@@ -1,13 +1,14 @@
 -- What the bits of a double spell: the sign, the exponent's field and the digits. Assumes nothing.
 use mathlib.Core.Bool.{Bool, true, false, not, cond, _&&_, _||_, true≢false}
-use mathlib.Core.Path.{_≡_, _∙_, ap, refl, sym}
+use mathlib.Core.Path.{_≡_, _∙_, ap, refl, sym, subst}
 use Prim.Native.Nat.{ℕ, zero, suc, _+_, _-_, _*_, _/_, _%_, _^_, _≤_, _<_}
 use native.Mathlib.Nat.{mul-one, mul-assoc, mul-pos, mul-le-mul-left, mul-lt-mul-of-pos-right, lt-of-lt-of-le}
 use native.Mathlib.Omega.{arith}
 use borrow.Author.Tests.{lt-ltb, le-ltb, le-leb, lt-leb, leb-true, ne-eqb}
 use lib.Dec.{T, eqb, leb, ltb}
 use lib.Pow.{pow-add, pow-mono, pow-pos}
-use lib.Ieee.{Float, nan, inf, fin, binary64, isNan, ne, odd, ofBits, ofFields}
+use lib.Ieee.{Float, nan, inf, fin, binary64, isNan, eq, ne, odd, ofBits, ofFields}
+use lib.Ieee.Compare.{differs-from-itself}
 use lib.Ieee.Exact.{HasValue, odd-sign}
 use Rattle.apportion.specs.Fractions.{over}
 use Rattle.workbook.specs.declared.cells.Cell.the-variants.{Number}
@@ -18,11 +19,16 @@ use Rattle.workbook.specs.Inner.Steps.{fractionConversion}
 use Rattle.workbook.proofs.SameValue.{fraction-same, value-refused, value-converted, refused-double}
 
 -- what equals itself is no NaN, and so has bits
-pub equal-to-itself : (x : Float) → ne x x ≡ false → T (not (isNan x))
-unfolding ne isNan
-equal-to-itself nan e = absurd (true≢false e)
+pub equal-to-itself : (x : Float) → eq x x ≡ true → T (not (isNan x))
+unfolding eq isNan
+equal-to-itself nan e = absurd (true≢false (sym e))
 equal-to-itself (inf s) e = tt
 equal-to-itself (fin s m k) e = tt
+
+-- and what does not is one
+pub unequal-to-itself : (x : Float) → eq x x ≡ false → x ≡ nan
+unfolding ne
+unequal-to-itself x e = differs-from-itself x (subst (λ (t : Bool). T (not t)) (sym e) tt)
 
 -- the weights of the sign and of the leading digit, and the field of what is not finite
 abbrev sign : ℕ

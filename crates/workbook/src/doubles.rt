@@ -13,15 +13,15 @@ const SIGN: u64 = 9_223_372_036_854_775_808;
 
 const LEADING: u64 = 4_503_599_627_370_496;
 
-// A double as a cell of its own: its thousandths, or 15.
+// A double as a cell of its own: its thousandths, or 15. A NaN, which alone differs from itself, has no bits of its own.
 pub fn convert_double(x: f64, limit: u64) -> Conversion
     requires { ⌜ limit ≤ quantityLimit ⌝ }
     ensures { λ r. ⌜ r ≡ conversionOf limit (Number x) ⌝ }
 {
-    if x != x {
-        return Conversion::Refused(15);
+    if x == x {
+        return convert_bits(f64::to_bits(x), limit);
     }
-    convert_bits(f64::to_bits(x), limit)
+    Conversion::Refused(15)
 }
 
 // The same of the double with these bits. Those past the sign's weight are below zero; the sign's alone are negative zero. With a field
