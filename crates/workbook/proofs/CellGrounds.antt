@@ -15,7 +15,7 @@ use Rattle.workbook.specs.declared.cells.Conversion.the-variants.{Value,
 use Rattle.workbook.specs.declared.lines.Line.{Line}
 use Rattle.workbook.specs.declared.lines.ConvertedLine.{ConvertedLine}
 use Rattle.workbook.specs.Doubles.{exact, thousandths, isRefused}
-use Rattle.workbook.specs.Cells.{quantityLimit, factorLimit, cellGrounds, mean, cellValue, conversionBy, conversionOf, refusalOf, valueOf}
+use Rattle.workbook.specs.Cells.{quantityLimit, factorLimit, cellGrounds, cellRefusal, mean, cellValue, conversionBy, conversionOf, refusalOf, valueOf}
 use Rattle.workbook.specs.Inner.Steps.{firstNumber}
 use Rattle.workbook.specs.Lines.{lineRefusal, convertedLine}
 
@@ -25,15 +25,14 @@ by-number zero value = (refl, refl)
 by-number (suc n) value = (refl, refl)
 
 -- document 02's number and the value of what a cell comes to
-pub conversion-numbers : (limit : ℕ) (cell : Cell)
-    → (refusalOf (conversionOf limit cell) ≡ firstOf (cellGrounds limit cell))
-    × (valueOf (conversionOf limit cell) ≡ accepted (firstOf (cellGrounds limit cell)) (cellValue cell) 0)
-unfolding conversionOf
-conversion-numbers limit cell = by-number (firstOf (cellGrounds limit cell)) (cellValue cell)
+abbrev pub NumbersOf : ℕ → Cell → Conversion → Type 0
+NumbersOf limit cell r = (refusalOf r ≡ cellRefusal limit cell) × (valueOf r ≡ accepted (cellRefusal limit cell) (cellValue cell) 0)
 
--- where it is accepted, its value is the cell's
-value-accepted : (limit : ℕ) (cell : Cell) → firstOf (cellGrounds limit cell) ≡ 0 → valueOf (conversionOf limit cell) ≡ cellValue cell
-value-accepted limit cell e = conversion-numbers limit cell .1 ∙ accepted-new (firstOf (cellGrounds limit cell)) (cellValue cell) 0 e
+pub with-numbers : (limit : ℕ) (cell : Cell) {r : Conversion} → r ≡ conversionOf limit cell → (r ≡ conversionOf limit cell) × NumbersOf limit cell r
+unfolding conversionOf
+with-numbers limit cell e =
+    let numbers = by-number (cellRefusal limit cell) (cellValue cell) in
+    (e, (ap refusalOf e ∙ numbers .0, ap valueOf e ∙ numbers .1))
 
 abbrev isValue : Conversion → Bool
 isValue (Value value) = true
@@ -76,7 +75,7 @@ module _ (limit : ℕ) (x y : Float) (fine : isRefused limit x ≡ false) where
 
 -- a cell's grounds decide, or those behind them
 cell-first : (limit : ℕ) (cell : Cell) (rest : List Ground)
-    → firstOf (cellGrounds limit cell ++ rest) ≡ accepted (firstOf (cellGrounds limit cell)) (firstOf rest) (firstOf (cellGrounds limit cell))
+    → firstOf (cellGrounds limit cell ++ rest) ≡ accepted (cellRefusal limit cell) (firstOf rest) (cellRefusal limit cell)
 cell-first limit Blank rest = refl
 cell-first limit (Number x) rest = go (isRefused limit x)
   where
@@ -94,7 +93,7 @@ cell-first limit (Span x y) rest = go (isRefused limit x || isRefused limit y) (
 abbrev pub OfCells : ℕ → Type 0
 OfCells n = (n ≡ 0) ⊎ ((n ≡ 15) ⊎ (n ≡ 16))
 
-cell-number : (limit : ℕ) (cell : Cell) → OfCells (firstOf (cellGrounds limit cell))
+cell-number : (limit : ℕ) (cell : Cell) → OfCells (cellRefusal limit cell)
 cell-number limit Blank = inr (inl refl)
 cell-number limit (Number x) = go (isRefused limit x)
   where
@@ -122,13 +121,13 @@ none-of-three (suc a) b c e = let z : ⊥ = omega (arith, e) in absurd z
 -- a line by its three cells
 module _ (line : Line) where
   abbrev quantityRefusal : ℕ
-  quantityRefusal = firstOf (cellGrounds quantityLimit (line .quantity))
+  quantityRefusal = cellRefusal quantityLimit (line .quantity)
 
   abbrev operationRefusal : ℕ
-  operationRefusal = firstOf (cellGrounds factorLimit (line .«operation_factor»))
+  operationRefusal = cellRefusal factorLimit (line .«operation_factor»)
 
   abbrev provisionRefusal : ℕ
-  provisionRefusal = firstOf (cellGrounds factorLimit (line .«provision_factor»))
+  provisionRefusal = cellRefusal factorLimit (line .«provision_factor»)
 
   refusal-by-cells : lineRefusal line ≡ firstNumber quantityRefusal operationRefusal provisionRefusal
   unfolding lineRefusal
@@ -150,20 +149,11 @@ module _ (line : Line) where
   pub cells-accepted : lineRefusal line ≡ 0 → (quantityRefusal ≡ 0) × (operationRefusal ≡ 0) × (provisionRefusal ≡ 0)
   cells-accepted e = none-of-three quantityRefusal operationRefusal provisionRefusal (sym refusal-by-cells ∙ e)
 
-  -- from what the three cells come to
-  module _ {q o p : Conversion} (is-q : q ≡ conversionOf quantityLimit (line .quantity)) (is-o : o ≡ conversionOf factorLimit (line .«operation_factor»))
-      (is-p : p ≡ conversionOf factorLimit (line .«provision_factor»)) where
+  -- from the numbers of what the three cells come to
+  module _ (q o p : Conversion) (of-q : NumbersOf quantityLimit (line .quantity) q) (of-o : NumbersOf factorLimit (line .«operation_factor») o)
+      (of-p : NumbersOf factorLimit (line .«provision_factor») p) where
     line-refusal : firstNumber (refusalOf q) (refusalOf o) (refusalOf p) ≡ lineRefusal line
-    line-refusal =
-        rw (
-          is-q,
-          is-o,
-          is-p,
-          conversion-numbers quantityLimit (line .quantity) .0,
-          conversion-numbers factorLimit (line .«operation_factor») .0,
-          conversion-numbers factorLimit (line .«provision_factor») .0,
-        )
-        (sym refusal-by-cells)
+    line-refusal = rw (of-q .0, of-o .0, of-p .0) (sym refusal-by-cells)
 
     -- a refused line
     pub line-refused : (r : ℕ) → r ≡ firstNumber (refusalOf q) (refusalOf o) (refusalOf p) → (r ≡ 0 → ⊥)
@@ -184,12 +174,4 @@ module _ (line : Line) where
     line-converted r made none =
         let is : lineRefusal line ≡ 0 = sym (made ∙ line-refusal) ∙ none in
         let each = cells-accepted is in
-        rw (
-          is,
-          is-q,
-          is-o,
-          is-p,
-          value-accepted quantityLimit (line .quantity) (each .0),
-          value-accepted factorLimit (line .«operation_factor») (each .1),
-          value-accepted factorLimit (line .«provision_factor») (each .2),
-        )
+        rw (is, of-q .1, of-o .1, of-p .1, each .0, each .1, each .2)

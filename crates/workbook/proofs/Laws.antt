@@ -12,7 +12,6 @@ use lib.Ieee.Back.{round-whole}
 use lib.Ieee.Exact.{HasValue}
 use lib.Ieee.Fits.{down-pos}
 use Rattle.apportion.specs.Fractions.{Fraction, over, nearest}
-use Rattle.apportion.specs.Grounds.{firstOf}
 use Rattle.apportion.specs.Nearness.{WithinHalf}
 use Rattle.apportion.proofs.Grounds.{or-none}
 use Rattle.apportion.proofs.Rounding.{nearest-near, nearest-most, nearest-whole}
@@ -21,12 +20,12 @@ use Rattle.workbook.specs.declared.cells.Cell.the-variants.{Blank, Numbe
 use Rattle.workbook.specs.declared.cells.Conversion.the-variants.{Value}
 use Rattle.workbook.specs.declared.lines.Line.{Line}
 use Rattle.workbook.specs.Doubles.{exact, thousandths, isFinite, isBelowZero, isAbove, isRefused}
-use Rattle.workbook.specs.Cells.{quantityLimit, factorLimit, cellGrounds, mean, cellValue, conversionOf}
+use Rattle.workbook.specs.Cells.{quantityLimit, factorLimit, cellRefusal, mean, cellValue, conversionOf}
 use Rattle.workbook.specs.Inner.Steps.{fractionConversion}
 use Rattle.workbook.specs.Lines.{lineRefusal}
 use Rattle.workbook.proofs.SameValue.{value-converted}
 use Rattle.workbook.proofs.CellGrounds.{cells-accepted}
-pub use Rattle.workbook.proofs.CellGrounds.{OfCells, conversion-numbers, line-number}
+pub use Rattle.workbook.proofs.CellGrounds.{OfCells, line-number}
 
 -- A converted double is at most half a thousandth from its exact value, and the mean of a span at most half a unit from that of its ends.
 some-denominator : (x : Float) → 0 < exact x .denominator
@@ -48,7 +47,7 @@ within-limit limit x e =
     let within = ltb-false (limit * exact x .denominator) (exact x .numerator) (none .1) in
     nearest-most (1000 * exact x .numerator) (exact x .denominator) (1000 * limit) (some-denominator x) (omega (arith, within))
 
-pub cell-most : (limit : ℕ) (cell : Cell) → firstOf (cellGrounds limit cell) ≡ 0 → cellValue cell ≤ 1000 * limit
+pub cell-most : (limit : ℕ) (cell : Cell) → cellRefusal limit cell ≡ 0 → cellValue cell ≤ 1000 * limit
 cell-most limit Blank e = let z : ⊥ = omega (arith, e) in absurd z
 cell-most limit (Number x) e = go (isRefused limit x) refl e
   where

@@ -26,6 +26,9 @@ cellGrounds limit Blank = (15, true) ∷ []
 cellGrounds limit (Number x) = (15, isRefused limit x) ∷ []
 cellGrounds limit (Span x y) = (15, isRefused limit x || isRefused limit y) ∷ (16, lt y x) ∷ []
 
+abbrev pub cellRefusal : ℕ → Cell → ℕ
+cellRefusal limit cell = firstOf (cellGrounds limit cell)
+
 -- "A span becomes the mean of its two converted ends, halves up."
 abbrev pub mean : ℕ → ℕ → ℕ
 mean a b = nearest (a + b) 2
@@ -42,7 +45,7 @@ conversionBy refusal value = accepted refusal (Value value) (Refused refusal)
 
 -- what a cell comes to
 unfoldable pub conversionOf : ℕ → Cell → Conversion
-conversionOf limit cell = conversionBy (firstOf (cellGrounds limit cell)) (cellValue cell)
+conversionOf limit cell = conversionBy (cellRefusal limit cell) (cellValue cell)
 
 -- document 02's number for each case, 0 where there is a value; and the value, 0 beside a number
 abbrev pub refusalOf : Conversion → ℕ

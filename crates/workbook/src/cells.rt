@@ -1,8 +1,9 @@
 // A cell, and what it comes to.
 ghost use mathlib.Core.Path.{_≡_};
 ghost use Prim.Native.Nat.{_≤_};
+ghost use Rattle.apportion.specs.Grounds.{accepted};
 ghost use Rattle.workbook.specs.declared.cells.Cell.the-variants.{Span};
-ghost use Rattle.workbook.specs.Cells.{quantityLimit, conversionOf, mean, refusalOf, valueOf};
+ghost use Rattle.workbook.specs.Cells.{quantityLimit, cellRefusal, cellValue, conversionOf, mean, refusalOf, valueOf};
 use crate::doubles;
 
 pub enum Cell {
@@ -29,6 +30,8 @@ pub enum Conversion {
 pub fn convert_cell(cell: Cell, limit: u64) -> Conversion
     requires { ⌜ limit ≤ quantityLimit ⌝ }
     ensures { λ r. ⌜ r ≡ conversionOf limit cell ⌝ }
+    ensures { λ r. ⌜ refusalOf r ≡ cellRefusal limit cell ⌝ }
+    ensures { λ r. ⌜ valueOf r ≡ accepted (cellRefusal limit cell) (cellValue cell) 0 ⌝ }
 {
     match cell {
         Cell::Blank => Conversion::Refused(15),

@@ -2,6 +2,7 @@
 use mathlib.Core.Path.{_∙_, sym}
 use borrow.Author.Needs.{needs}
 use Rattle.workbook.specs.Cells.{conversionOf}
+use Rattle.workbook.proofs.CellGrounds.{with-numbers}
 use Rattle.workbook.proofs.cells.convert_cell.Statement.{statement}
 use Rattle.workbook.proofs.cells.convert_cell.Tie as tie
 
@@ -22,13 +23,17 @@ convert-span-requires c κs = search needs
 
 returns : tie.Need-returns
 unfolding conversionOf
-returns c = rw (c .enum-told .given .1)
+returns c = with-numbers (c .before .before .args .limit) (c .before .before .args .cell) (rw (c .enum-told .given .1))
 
 returns-2 : tie.Need-returns-2
-returns-2 c = rw (c .before .before .cell .given .1) (c .convert-double .ensures)
+returns-2 c =
+    let start = c .before .before .before .before in
+    with-numbers (start .args .limit) (start .args .cell) (rw (c .before .before .cell .given .1) (c .convert-double .ensures))
 
 returns-3 : tie.Need-returns-3
-returns-3 c = rw (c .before .before .cell2 .given .1) (c .convert-span .ensures)
+returns-3 c =
+    let start = c .before .before .before .before in
+    with-numbers (start .args .limit) (start .args .cell) (rw (c .before .before .cell2 .given .1) (c .convert-span .ensures))
 
 pub convert-cell-spec : {M : Type 1} → statement M
 convert-cell-spec =

@@ -29,9 +29,13 @@ first-number-requires c κs = search needs
 returns : tie.Need-returns
 returns c =
     let numbers = c .before .before in
-    let cells = numbers .before .before .before in
-    let start = cells .before .before .before in
-    line-refused (start .args .line) (cells .before .before .convert-cell .ensures) (cells .before .convert-cell2 .ensures) (cells .convert-cell3 .ensures)
+    let last = numbers .before .before .before in
+    let middle = last .before in
+    let first = middle .before in
+    line-refused (first .before .args .line) (first .convert-cell .result) (middle .convert-cell2 .result) (last .convert-cell3 .result)
+    (first .convert-cell .ensures .1)
+    (middle .convert-cell2 .ensures .1)
+    (last .convert-cell3 .ensures .1)
     (c .before .first-number .result)
     (c .before .first-number .ensures ∙ rw (numbers .before .before .refusal-of .ensures, numbers .before .refusal-of2 .ensures, numbers .refusal-of3 .ensures))
     (c .if1 .taken)
@@ -49,10 +53,14 @@ returns-2 : tie.Need-returns-2
 returns-2 c =
     let none = c .before .before .before in
     let numbers = none .before .before in
-    let cells = numbers .before .before .before in
-    let start = cells .before .before .before in
+    let last = numbers .before .before .before in
+    let middle = last .before in
+    let first = middle .before in
     rw (c .before .before .value-of .ensures, c .before .value-of2 .ensures, c .value-of3 .ensures)
-    (line-converted (start .args .line) (cells .before .before .convert-cell .ensures) (cells .before .convert-cell2 .ensures) (cells .convert-cell3 .ensures)
+    (line-converted (first .before .args .line) (first .convert-cell .result) (middle .convert-cell2 .result) (last .convert-cell3 .result)
+    (first .convert-cell .ensures .1)
+    (middle .convert-cell2 .ensures .1)
+    (last .convert-cell3 .ensures .1)
     (none .before .first-number .result)
     (none .before .first-number .ensures ∙ rw (numbers .before .before .refusal-of .ensures, numbers .before .refusal-of2 .ensures, numbers .refusal-of3 .ensures))
     (none .if1 .left))
