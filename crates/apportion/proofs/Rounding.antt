@@ -1,6 +1,6 @@
 -- Laws of rounding to the nearest whole number. Assumes nothing.
 use mathlib.Core.Path.{_≡_, _∙_, ap, sym}
-use Prim.Native.Nat.{ℕ, _+_, _*_, _/_, _%_, _≤_, _<_}
+use Prim.Native.Nat.{ℕ, _+_, _*_, _/_, _≤_, _<_}
 use native.Mathlib.Nat.{div-add-mod', mod-lt, div-div-eq-div-mul, add-div-right, lt-of-mul-lt-mul-right, mul-comm}
 use native.Mathlib.Omega.{arith}
 use lib.Ieee.Nearest.{div-same}
@@ -27,13 +27,6 @@ nearest-most n d k some h =
     let less : x * d < (k + 1) * d = omega (arith, near) in
     let under : x < k + 1 = lt-of-mul-lt-mul-right d less in
     omega arith
-
--- a whole number is rounded to itself
-pub nearest-whole : (k d : ℕ) → 0 < d → nearest (k * d) d ≡ k
-nearest-whole k d some = nearest-same (k * d) d k 1 some (omega arith) (omega arith) ∙ one
-  where
-    one : nearest k 1 ≡ k
-    one = omega arith
 
 -- by a quotient of twice the number
 pub nearest-twice : (n d : ℕ) → 0 < d → (2 * n / d + 1) / 2 ≡ nearest n d

@@ -1,6 +1,6 @@
 -- Which bits spell a NaN. Assumes nothing.
 use mathlib.Core.Bool.{Bool, true, false, not, true≢false}
-use mathlib.Core.Path.{_≡_, _∙_, ap, refl, sym, subst}
+use mathlib.Core.Path.{_≡_, _∙_, refl, sym, subst}
 use Prim.Native.Nat.{ℕ, _%_, _≤_, _<_}
 use borrow.Author.Tests.{lt-ltb, le-ltb}
 use lib.Dec.{T}

@@ -5,7 +5,6 @@ use lib.Dec.{eqb}
 use lib.Ieee.{binary64, ofBits}
 use Rattle.workbook.specs.declared.cells.Cell.{Cell}
 use Rattle.workbook.specs.declared.cells.Cell.the-variants.{Blank, Number, Span}
-use Rattle.workbook.specs.declared.lines.Line.{Line}
 use Rattle.replay.specs.declared.cells.Cells.{Cells}
 use Rattle.replay.specs.declared.records.Words.{Words}
 

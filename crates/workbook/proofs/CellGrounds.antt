@@ -1,19 +1,18 @@
 -- A cell by its grounds, and a line by its cells. Assumes nothing.
 use mathlib.Core.Bool.{Bool, true, false, cond, _||_, true≢false}
-use mathlib.Core.List.{List, [], _∷_, _++_}
+use mathlib.Core.List.{List, _++_}
 use mathlib.Core.Logic.{_⊎_, inl, inr}
 use mathlib.Core.Path.{_≡_, _∙_, ap, refl, sym}
 use Prim.Native.Nat.{ℕ, zero, suc}
 use native.Mathlib.Omega.{arith}
 use lib.Ieee.{Float, lt}
 use Rattle.apportion.specs.Grounds.{accepted, Ground, firstOf}
-use Rattle.apportion.proofs.Grounds.{accepted-new, refused-old}
+use Rattle.apportion.proofs.Grounds.{refused-old}
 use Rattle.workbook.specs.declared.cells.Cell.{Cell}
 use Rattle.workbook.specs.declared.cells.Cell.the-variants.{Blank, Number, Span}
 use Rattle.workbook.specs.declared.cells.Conversion.{Conversion}
 use Rattle.workbook.specs.declared.cells.Conversion.the-variants.{Value, Refused}
 use Rattle.workbook.specs.declared.lines.Line.{Line}
-use Rattle.workbook.specs.declared.lines.ConvertedLine.{ConvertedLine}
 use Rattle.workbook.specs.Doubles.{exact, thousandths, isRefused}
 use Rattle.workbook.specs.Cells.{quantityLimit, factorLimit, cellGrounds, cellRefusal, mean, cellValue, conversionBy, conversionOf, refusalOf, valueOf}
 use Rattle.workbook.specs.Inner.Steps.{firstNumber}

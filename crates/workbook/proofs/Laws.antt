@@ -1,20 +1,18 @@
 -- The laws of conversion. Assumes nothing.
-use mathlib.Core.Bool.{Bool, true, false, cond, not, _&&_, _||_, true≢false}
-use mathlib.Core.Path.{_≡_, _∙_, ap, refl, sym}
-use Prim.Native.Nat.{ℕ, zero, suc, _+_, _*_, _≤_, _<_, _^_}
-use native.Mathlib.Nat.{mul-one}
+use mathlib.Core.Bool.{Bool, true, false, cond, not, _||_}
+use mathlib.Core.Path.{_≡_, _∙_, refl}
+use Prim.Native.Nat.{ℕ, _+_, _*_, _≤_, _<_, _^_}
 use native.Mathlib.Omega.{arith}
 use borrow.Author.Tests.{ltb-false, le-ltb}
-use lib.Dec.{ltb}
 use lib.IntN.{pos}
-use lib.Ieee.{Float, nan, inf, fin, up, down, lt, binary64, ofInt}
+use lib.Ieee.{Float, nan, inf, fin, up, lt, binary64, ofInt}
 use lib.Ieee.Back.{round-whole}
 use lib.Ieee.Exact.{HasValue}
 use lib.Ieee.Fits.{down-pos}
-use Rattle.apportion.specs.Fractions.{Fraction, over, nearest}
+use Rattle.apportion.specs.Fractions.{over}
 use Rattle.apportion.specs.Nearness.{WithinHalf}
 use Rattle.apportion.proofs.Grounds.{or-none}
-use Rattle.apportion.proofs.Rounding.{nearest-near, nearest-most, nearest-whole}
+use Rattle.apportion.proofs.Rounding.{nearest-near, nearest-most}
 use Rattle.workbook.specs.declared.cells.Cell.{Cell}
 use Rattle.workbook.specs.declared.cells.Cell.the-variants.{Blank, Number, Span}
 use Rattle.workbook.specs.declared.cells.Conversion.the-variants.{Value}

@@ -1,24 +1,22 @@
 -- A fraction that is written otherwise is converted alike, and so is a double that has its value. Assumes nothing.
-use mathlib.Core.Bool.{Bool, true, false, cond, not, _&&_, _||_}
+use mathlib.Core.Bool.{Bool, true, false, not, _&&_, _||_}
 use mathlib.Core.Logic.{⊎-elim}
-use mathlib.Core.Path.{_≡_, _∙_, ap, refl, sym}
-use Prim.Native.Nat.{ℕ, zero, suc, _+_, _*_, _≤_, _<_}
+use mathlib.Core.Path.{_≡_, refl, sym}
+use Prim.Native.Nat.{ℕ, zero, suc, _*_, _≤_, _<_}
 use native.Mathlib.Nat.{mul-pos, lt-of-mul-lt-mul-right, mul-lt-mul-of-pos-right}
 use native.Mathlib.Omega.{arith}
 use borrow.Author.Tests.{ltb-true, ltb-false, lt-ltb, le-ltb}
 use lib.Dec.{ltb}
-use lib.IntN.{ℤ}
 use lib.Ieee.{Float, nan, inf, fin, up, down}
 use lib.Ieee.Exact.{HasValue}
 use lib.Ieee.Fits.{down-pos, up-pos}
-use Rattle.apportion.specs.Fractions.{Fraction, over, nearest}
+use Rattle.apportion.specs.Fractions.{over}
 use Rattle.apportion.proofs.Sums.{below-or-not}
 use Rattle.apportion.proofs.Rounding.{nearest-same}
 use Rattle.workbook.specs.declared.cells.Cell.the-variants.{Number}
-use Rattle.workbook.specs.declared.cells.Conversion.{Conversion}
 use Rattle.workbook.specs.declared.cells.Conversion.the-variants.{Refused}
-use Rattle.workbook.specs.Doubles.{exact, thousandths, isFinite, isBelowZero, isAbove, isRefused}
-use Rattle.workbook.specs.Cells.{conversionBy, conversionOf}
+use Rattle.workbook.specs.Doubles.{exact, thousandths, isAbove, isRefused}
+use Rattle.workbook.specs.Cells.{conversionOf}
 use Rattle.workbook.specs.Inner.Steps.{fractionConversion}
 
 -- two tests that say the same

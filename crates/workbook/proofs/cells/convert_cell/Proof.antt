@@ -1,5 +1,4 @@
 -- `workbook::cells::convert_cell` meets its contract. Assumes nothing.
-use mathlib.Core.Path.{_∙_, sym}
 use borrow.Author.Needs.{needs}
 use Rattle.workbook.specs.Cells.{conversionOf}
 use Rattle.workbook.proofs.CellGrounds.{with-numbers}

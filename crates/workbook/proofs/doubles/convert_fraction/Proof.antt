@@ -1,7 +1,6 @@
 -- `workbook::doubles::convert_fraction` meets its contract. Assumes nothing.
 use mathlib.Core.Logic.{⊎-elim, inl, inr}
-use mathlib.Core.Path.{_∙_, ap}
-use Prim.Native.Nat.{ℕ, _*_, _^_}
+use Prim.Native.Nat.{_*_, _^_}
 use native.Mathlib.Omega.{arith}
 use lib.Pow.{pow-pos, shr-le}
 use borrow.Author.Needs.{needs}
