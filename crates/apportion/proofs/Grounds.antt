@@ -76,21 +76,31 @@ areNumbered [] = true
 areNumbered (g ∷ gs) = accepted (g .0) false (areNumbered gs)
 
 -- no ground of this number holds
-abbrev pub unheld : ℕ → List Ground → Bool
-unheld number [] = true
-unheld number (g ∷ gs) = cond (eqb number (g .0)) (not (g .1)) true && unheld number gs
+abbrev pub neverGiven : ℕ → List Ground → Bool
+neverGiven number [] = true
+neverGiven number (g ∷ gs) = cond (eqb number (g .0)) (not (g .1)) true && neverGiven number gs
 
--- then it is not the number of the first that does
-pub not-given : (number : ℕ) (gs : List Ground) → 0 < number → unheld number gs ≡ true → firstOf gs ≡ number → ⊥
+-- of one list behind another
+pub never-both : (number : ℕ) (gs hs : List Ground) → neverGiven number gs ≡ true → neverGiven number hs ≡ true → neverGiven number (gs ++ hs) ≡ true
+never-both number [] hs e f = f
+never-both number (g ∷ gs) hs e f = go (cond (eqb number (g .0)) (not (g .1)) true) e (λ h. never-both number gs hs h f)
+  where
+    go : (b : Bool) → b && neverGiven number gs ≡ true → (neverGiven number gs ≡ true → neverGiven number (gs ++ hs) ≡ true)
+        → b && neverGiven number (gs ++ hs) ≡ true
+    go true h later = later h
+    go false h later = h
+
+-- then it is not the number of the first that holds
+pub not-given : (number : ℕ) (gs : List Ground) → 0 < number → neverGiven number gs ≡ true → firstOf gs ≡ number → ⊥
 not-given number [] some none e = omega arith
 not-given number (g ∷ gs) some none e = go (g .0) (g .1) none e (not-given number gs some)
   where
-    rest : (b : Bool) → cond b true true && unheld number gs ≡ true → unheld number gs ≡ true
+    rest : (b : Bool) → cond b true true && neverGiven number gs ≡ true → neverGiven number gs ≡ true
     rest true h = h
     rest false h = h
 
-    go : (n : ℕ) (t : Bool) → cond (eqb number n) (not t) true && unheld number gs ≡ true → cond t n (firstOf gs) ≡ number
-        → (unheld number gs ≡ true → firstOf gs ≡ number → ⊥) → ⊥
+    go : (n : ℕ) (t : Bool) → cond (eqb number n) (not t) true && neverGiven number gs ≡ true → cond t n (firstOf gs) ≡ number
+        → (neverGiven number gs ≡ true → firstOf gs ≡ number → ⊥) → ⊥
     go n true none e later = true≢false (sym none ∙ rw (eq-eqb number n (sym e)))
     go n false none e later = later (rest (eqb number n) none) e
 

@@ -7,7 +7,7 @@ pub record Within (units x n d : ℕ) : Type 0 where
   pub above : x * d < n + units * d
   pub below : n < x * d + units * d
 
--- the number x is at most half a unit from the fraction n / d, both ways
+-- the number x is at most half a unit from the fraction n / d, both ways, where d is above 0
 pub record WithinHalf (x n d : ℕ) : Type 0 where
   pub above : 2 * (x * d) ≤ 2 * n + d
   pub below : 2 * n ≤ 2 * (x * d) + d

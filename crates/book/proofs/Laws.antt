@@ -47,8 +47,9 @@ use Rattle.book_words.proofs.RecordRules.{entry-numbered, entry-suits, element-
 use Rattle.book_words.proofs.RecordsAfterWrite.{CategoryAdded, category-added, EntryAdded, entry-added, EntryStruck, entry-struck, ElementAdded, element-added}
 use Rattle.book_words.proofs.SoundRecords.{SoundFacts, facts-sound, sound-facts}
 use Rattle.book_words.proofs.WordsAfterWrite.{filled-past}
-use Rattle.workbook.proofs.Laws.{line-number, line-most}
-use Rattle.book.proofs.LinesAsPosts.{away-or-posted}
+use Rattle.workbook.specs.Lines.{lineGrounds, lineRefusal}
+use Rattle.workbook.proofs.Laws.{line-never, line-most}
+use Rattle.book.proofs.LinesAsPosts.{refused-or-posted}
 use Rattle.book.proofs.AcceptedCalls.{struck, opened, posted, unclosed-zero, enrolled, quoted, enrol-measured}
 use Rattle.book.proofs.SumsAfterCall.{category-sums, closing-sums}
 use Rattle.book.proofs.CallsKeepSound.{open-keeps, post-keeps, strike-keeps, element-keeps}
@@ -175,38 +176,41 @@ module _ (ws : List ℕ) where
 
   -- line: an accepted one is the post of its converted cells
   module _ (l : LineArguments) where
-    number : Reply → ℕ
-    number r = r .refusal
-
     pub line-posted : lineReply ws l .refusal ≡ 0 → (postRefusal ws (linePost l) ≡ 0) × (lineBook ws l ≡ postBook ws (linePost l))
-    unfolding number postReply
+    unfolding postReply
     line-posted e =
-        ⊎-elim (λ away. absurd (away .refused (sym (ap number (away .reply)) ∙ e))) (λ done. (sym (ap number (done .reply)) ∙ e, done .book))
-        (away-or-posted ws l)
+        ⊎-elim (λ bad. absurd (bad .refused (sym (ap (λ (r : Reply). r .refusal) (bad .reply)) ∙ e)))
+        (λ done. (sym (ap (λ (r : Reply). r .refusal) (done .reply)) ∙ e, done .book))
+        (refused-or-posted ws l)
 
     pub line-refused : (lineReply ws l .refusal ≡ 0 → ⊥) → lineBook ws l ≡ ws
-    unfolding number postReply
+    unfolding postReply
     line-refused ne =
-        ⊎-elim (λ away. away .book) (λ done. done .book ∙ post-refused (linePost l) (λ z. ne (ap number (done .reply) ∙ z))) (away-or-posted ws l)
+        ⊎-elim (λ bad. bad .book)
+        (λ done. done .book ∙ post-refused (linePost l) (λ z. ne (ap (λ (r : Reply). r .refusal) (done .reply) ∙ z)))
+        (refused-or-posted ws l)
 
     pub line-sound : sound ws ≡ true → sound (lineBook ws l) ≡ true
-    line-sound w = ⊎-elim (λ away. ap sound (away .book) ∙ w) (λ done. ap sound (done .book) ∙ post-sound (linePost l) w) (away-or-posted ws l)
+    line-sound w = ⊎-elim (λ bad. ap sound (bad .book) ∙ w) (λ done. ap sound (done .book) ∙ post-sound (linePost l) w) (refused-or-posted ws l)
 
-    -- ground 7 never holds of it
+    -- it is never refused with 7
     pub line-in-range : lineReply ws l .refusal ≡ 7 → ⊥
-    unfolding number postReply postRefusal
+    unfolding postReply postRefusal lineRefusal
     line-in-range e =
         ⊎-elim
-        (λ away.
-        let seven = sym (ap number (away .reply)) ∙ e in
-        ⊎-elim (away .refused) (λ other. ⊎-elim (λ z. omega (arith, z, seven)) (λ z. omega (arith, z, seven)) other) (line-number (l .line)))
+        (λ bad.
+        not-given 7 (lineGrounds (l .line)) (omega arith) (line-never (l .line) 7 refl refl) (sym (ap (λ (r : Reply). r .refusal) (bad .reply)) ∙ e))
         (λ done.
         let p = linePost l in
         let most = line-most (l .line) (done .fine) in
         not-given 7 (postGrounds ws p) (omega arith)
-        (rw (le-leb (p .quantity) 1_000_000_000_000 (most .0), le-leb (p .«operation_factor») 10_000_000_000 (most .1), le-leb (p .«provision_factor») 10_000_000_000 (most .2)))
-        (sym (ap number (done .reply)) ∙ e))
-        (away-or-posted ws l)
+        (rw (
+          le-leb (p .quantity) 1_000_000_000_000 (most .0),
+          le-leb (p .«operation_factor») 10_000_000_000 (most .1),
+          le-leb (p .«provision_factor») 10_000_000_000 (most .2),
+        ))
+        (sym (ap (λ (r : Reply). r .refusal) (done .reply)) ∙ e))
+        (refused-or-posted ws l)
 
   -- strike
   module _ (entry : ℕ) where

@@ -12,8 +12,8 @@ use Rattle.book.specs.Calls.{refusalAlone, postReply, postBook}
 use Rattle.book.specs.Lines.{linePost, lineReply, lineBook}
 
 module _ (ws : List ℕ) (l : LineArguments) where
-  -- 15 or 16 turns a line away, whatever the book,
-  pub record TurnedAway : Type 0 where
+  -- 15 or 16 refuses a line, whatever the book,
+  pub record CellsRefused : Type 0 where
     pub refused : lineRefusal (l .line) ≡ 0 → ⊥
     pub reply : lineReply ws l ≡ refusalAlone (lineRefusal (l .line))
     pub book : lineBook ws l ≡ ws
@@ -24,9 +24,9 @@ module _ (ws : List ℕ) (l : LineArguments) where
     pub reply : lineReply ws l ≡ postReply ws (linePost l)
     pub book : lineBook ws l ≡ postBook ws (linePost l)
 
-  pub turned-away : (lineRefusal (l .line) ≡ 0 → ⊥) → TurnedAway
+  pub cells-refused : (lineRefusal (l .line) ≡ 0 → ⊥) → CellsRefused
   unfolding lineReply lineBook
-  turned-away ne =
+  cells-refused ne =
       record {
         refused = ne;
         reply = refused-old (lineRefusal (l .line)) (postReply ws (linePost l)) _ ne;
@@ -42,12 +42,12 @@ module _ (ws : List ℕ) (l : LineArguments) where
         book = accepted-new (lineRefusal (l .line)) (postBook ws (linePost l)) ws e;
       }
 
-  pub away-or-posted : TurnedAway ⊎ AsPosted
-  away-or-posted = go (lineRefusal (l .line)) refl
+  pub refused-or-posted : CellsRefused ⊎ AsPosted
+  refused-or-posted = go (lineRefusal (l .line)) refl
     where
-      go : (n : ℕ) → lineRefusal (l .line) ≡ n → TurnedAway ⊎ AsPosted
+      go : (n : ℕ) → lineRefusal (l .line) ≡ n → CellsRefused ⊎ AsPosted
       go zero is = inr (as-posted is)
-      go (suc n) is = inl (turned-away (λ z. omega (arith, is, z)))
+      go (suc n) is = inl (cells-refused (λ z. omega (arith, is, z)))
 
 -- the arguments of its post, from what its cells come to
 abbrev pub postWith : LineArguments → ℕ → ℕ → ℕ → PostArguments

@@ -1,16 +1,16 @@
 -- "Calls" and their "Grounds, in checking order". Each call has one ordered list of its grounds; its reply and the book after
 -- it go by the number of the first ground that holds. Close and intensity are in `Closing` and `Intensities` of `book_shares`,
--- statement in `Statements`.
+-- statement in `Statements`, a line in `Lines`.
 -- Assumes nothing.
 use mathlib.Core.Bool.{Bool, not, _&&_, _||_, cond}
 use mathlib.Core.List.{List, _++_, _∷_, []}
 use Prim.Native.Nat.{ℕ, _+_, _*_}
 use lib.Dec.{ltb, leb, eqb}
 use lib.ListN.{drop, length, set}
+use Rattle.apportion.specs.Fractions.{nearest}
 use Rattle.apportion.specs.Grounds.{accepted, Ground, firstOf}
 use Rattle.apportion.specs.Places.{listBelow}
 use Rattle.book_words.specs.Book.{bookLength, mark, mostCategories, categories, addCategory, categoryOf, mostEntries, entries, addEntry, entryOf, strikeEntry, mostElements, elements, addElement, unnumbered, hasClosed}
-use Rattle.apportion.specs.Fractions.{nearest}
 use Rattle.book_words.specs.Measures.{isKind, isGroup, unsuitedGroup, unsuited, isQuantity, isFactor, activityOf, isChain, isCode, isMass, isAmount, isDistance, isDistanceIn, isKgPerHead, isAdjust, isIntensity}
 use Rattle.book_words.specs.Mixture.{mixes}
 use Rattle.book_words.specs.Soundness.{sound}
@@ -26,7 +26,7 @@ use Rattle.book.specs.declared.arguments.QuoteArguments.{QuoteArguments}
 use Rattle.book.specs.declared.replies.Reply.{Reply}
 
 -- a reply that is a refusal number alone, as a strike and a closing have it in a list of calls: "fresh, strike and close return
--- nothing more"
+-- nothing more"; and as a line has it that its cells refuse
 abbrev pub refusalAlone : ℕ → Reply
 refusalAlone refusal = record { refusal = refusal; number = 0 }
 

@@ -2,9 +2,9 @@
 ghost use mathlib.Core.Bool.{true};
 ghost use mathlib.Core.Path.{_≡_};
 ghost use Prim.Native.Nat.{_*_};
+ghost use Rattle.apportion.specs.Fractions.{nearest};
 ghost use Rattle.apportion.specs.Grounds.{firstOf};
 ghost use Rattle.apportion.specs.Inner.Grounds.{groundsBefore};
-ghost use Rattle.apportion.specs.Fractions.{nearest};
 ghost use Rattle.book_words.specs.Measures.{isDistance, isIntensity};
 ghost use Rattle.book_words.specs.Soundness.{sound};
 ghost use Rattle.book_words.specs.Totals.{sumsOf};

@@ -10,6 +10,7 @@ use lib.Dec.{eqb}
 use lib.ListN.{length}
 use borrow.Author.Tests.{eq-eqb, ne-eqb, le-leb, lt-leb}
 use Rattle.apportion.specs.Dividing.{divided, Divisible}
+use Rattle.apportion.specs.Fractions.{over, plus}
 use Rattle.apportion.specs.Nearness.{Within}
 use Rattle.apportion.specs.Places.{sumBelow, at, sumOf, kept}
 use Rattle.book_words.specs.Book.{elements, elementAt}
@@ -18,8 +19,7 @@ use Rattle.book_words.specs.declared.totals.Side.{Side}
 use Rattle.book_shares.specs.declared.weights.Recipients.{Recipients}
 use Rattle.book_shares.specs.declared.weights.Recipients.the-variants.{Group, Freight, Passengers}
 use Rattle.book_shares.specs.declared.sharing.Parts.{Parts}
-use Rattle.apportion.specs.Fractions.{over}
-use Rattle.book_shares.specs.Shares.{dividedAll, freightPart, passengerPart, weights, partAt, closingShare, exactShare, exactOf, plus}
+use Rattle.book_shares.specs.Shares.{dividedAll, freightPart, passengerPart, weights, partAt, closingShare, exactShare, exactOf}
 use Rattle.book_shares.specs.Sums.{pool, among, activityAmong, passengersByMass, ifRecipient, receives}
 use Rattle.apportion.proofs.Laws.{shares-length, shares-sum, share-of-zero, share-near}
 use Rattle.apportion.proofs.Lists.{list-length, list-at, list-past, list-sum}

@@ -8,10 +8,10 @@ use native.Mathlib.Nat.{add-zero}
 use native.Mathlib.Omega.{arith}
 use lib.Dec.{eqb, ltb}
 use borrow.Author.Tests.{eq-eqb, ne-eqb, not-false, ltb-false, leb-true}
+use Rattle.apportion.specs.Fractions.{nearest}
 use Rattle.apportion.specs.Grounds.{accepted, firstOf}
 use Rattle.apportion.specs.Inner.Grounds.{groundsBefore}
 use Rattle.book_words.specs.Book.{categoryOf, categories}
-use Rattle.apportion.specs.Fractions.{nearest}
 use Rattle.book_words.specs.Measures.{between, isHub}
 use Rattle.book_words.specs.Soundness.{sound}
 use Rattle.book_words.specs.declared.totals.Side.{Side}

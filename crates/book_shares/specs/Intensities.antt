@@ -3,9 +3,9 @@ use mathlib.Core.Bool.{Bool, _||_, cond, not, _&&_}
 use mathlib.Core.List.{List, _∷_, []}
 use Prim.Native.Nat.{ℕ, _*_, _+_}
 use lib.Dec.{eqb, ltb}
+use Rattle.apportion.specs.Fractions.{nearest}
 use Rattle.apportion.specs.Grounds.{Ground, firstOf, accepted}
 use Rattle.book_words.specs.Book.{categoryOf, unnumbered, categories, hasClosed}
-use Rattle.apportion.specs.Fractions.{nearest}
 use Rattle.book_words.specs.Measures.{isFreight, isHub}
 use Rattle.book_words.specs.Soundness.{sound}
 use Rattle.book_words.specs.declared.totals.Side.{Side}

@@ -4,7 +4,7 @@ use mathlib.Core.List.{List, _∷_, []}
 use Prim.Native.Nat.{ℕ, _+_, _*_}
 use lib.Dec.{eqb}
 use Rattle.apportion.specs.Dividing.{divided}
-use Rattle.apportion.specs.Fractions.{Fraction, over}
+use Rattle.apportion.specs.Fractions.{Fraction, over, plus}
 use Rattle.apportion.specs.Places.{at, listBelow}
 use Rattle.book_words.specs.Book.{elements, elementAt}
 use Rattle.book_words.specs.Measures.{isFreight}
@@ -43,10 +43,6 @@ closingShare ws category side place =
     + partAt ws category Passengers (passengerPart ws category side) place
     + partAt ws category (Group 1) (pool ws category 1 side) place
     + partAt ws category (Group 2) (pool ws category 2 side) place
-
--- the sum of two fractions
-abbrev pub plus : Fraction → Fraction → Fraction
-plus x y = over (x .numerator * y .denominator + y .numerator * x .denominator) (x .denominator * y .denominator)
 
 -- *Exact share* by its sums, of an element of this code and activity. "Freight of activity a in group g: A×a/(F+P), plus B×a/S
 -- if g is 1 or 2, B being that group's and S its activity. Passengers of activity c: A×P×c/((F+P)×C)."

@@ -7,6 +7,7 @@ use Prim.Native.Nat.{ℕ, _-_, _≤_, _<_}
 use native.Mathlib.Omega.{arith}
 use lib.Dec.{eqb}
 use lib.ListN.{length}
+use Rattle.apportion.specs.Fractions.{Fraction}
 use Rattle.apportion.specs.Nearness.{Within}
 use borrow.Author.Tests.{not-false}
 use Rattle.book_words.specs.Book.{bookLength, categories, categoryOf, entryAt, elements, elementAt, isClosed}
@@ -17,7 +18,6 @@ use Rattle.book_words.specs.Soundness.{sound}
 use Rattle.book_words.specs.declared.records.Category.{Category}
 use Rattle.book_words.specs.declared.records.Element.{Element}
 use Rattle.book_shares.specs.Closing.{closeRefusal, closeBook}
-use Rattle.apportion.specs.Fractions.{Fraction}
 use Rattle.book_shares.specs.Shares.{closingShare, exactOf}
 use Rattle.book.specs.declared.arguments.EnrolArguments.{EnrolArguments}
 use Rattle.book.specs.declared.arguments.PostArguments.{PostArguments}

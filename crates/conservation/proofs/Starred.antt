@@ -3,9 +3,8 @@ use mathlib.Core.Bool.{Bool, true, false, _&&_, true≢false}
 use mathlib.Core.List.{List, [], _∷_}
 use mathlib.Core.Path.{_≡_, refl, sym, ap₂}
 use Prim.Native.Nat.{ℕ}
-use lib.Count.{trailingZeros}
 use lib.Dec.{eqb}
-use lib.Ieee.{lt, round, size, units, span, climb, odd}
+use lib.Ieee.{lt}
 use borrow.Author.Tests.{eqb-true}
 use Rattle.apportion.specs.Dividing.{refusal, sharesAfter, divided, floorAt, remainderAt, leftOver, before, rank, unitFor, unitAt, shareAt}
 use Rattle.apportion.specs.Places.{sumOf}
@@ -80,6 +79,5 @@ unfolding refusal sharesAfter divided floorAt remainderAt leftOver before rank u
     sound allUnstruck unstruckOf
     sharesOf activities closeRefusal closeWith closeBook dividedAll weights partAt closingShare poolOf activityAmong
     passengersByMass openRefusal openReply openBook postRefusal postReply postBook enrolRefusal enrolReply enrolBook
-    quotedAmount quoteRefusal quoteReply quoteBook emissions closedIn lineRefusal lineReply lineBook isRefused lt round size units span climb
-    odd trailingZeros
+    quotedAmount quoteRefusal quoteReply quoteBook emissions closedIn lineRefusal lineReply lineBook isRefused lt
 starred-hold = every-row starred refl

@@ -7,6 +7,7 @@ use mathlib.Core.Path.{_≡_}
 use Prim.Native.Nat.{ℕ, _+_, _-_, _≤_}
 use lib.Dec.{eqb}
 use lib.ListN.{length}
+use Rattle.apportion.specs.Fractions.{Fraction}
 use Rattle.apportion.specs.Nearness.{Within}
 use Rattle.apportion.specs.Places.{sumBelow, oneIf}
 use Rattle.book_words.specs.Book.{bookLength, elementAt}
@@ -16,7 +17,6 @@ use Rattle.book_words.specs.declared.totals.Side.the-variants.{Operation as ope
 use Rattle.book_words.specs.Totals.{shareOf}
 use Rattle.book_shares.specs.declared.weights.Recipients.{Recipients}
 use Rattle.book_shares.specs.declared.weights.Recipients.the-variants.{Freight, Passengers, Group}
-use Rattle.apportion.specs.Fractions.{Fraction}
 use Rattle.book_shares.specs.Shares.{exactShare}
 use Rattle.book_shares.specs.Sums.{ifRecipient}
 use Rattle.book.specs.declared.replies.Statement.{Statement}
@@ -151,7 +151,7 @@ pub record Conserved (t : Tally) (ws : List ℕ) : Type 0 where
       → (side : Side) → gets ws k side ≡ 0
 
 -- "For every list of opens, posts, strikes, enrolments, quotes and closings from a fresh book, refused ones included, this holds
--- after it." The fresh is accepted on any words that have room for a book
+-- after it."; "Demand 3's lists may hold lines". The fresh is accepted on any words that have room for a book
 abbrev pub Conservation : Type 0
 Conservation =
     (words : List ℕ) → bookLength ≤ length words → (calls : List Call)

@@ -2,8 +2,9 @@
 use mathlib.Core.Bool.{false}
 use mathlib.Core.List.{List, [], _∷_}
 use mathlib.Core.Path.{_≡_}
-use Prim.Native.Nat.{ℕ}
-use lib.Ieee.{Float, binary64, round}
+use Prim.Native.Nat.{ℕ, _-_}
+use lib.Ieee.{Float, fin}
+use lib.IntN.{negsuc}
 use lib.ListN.{length, replicate}
 use Rattle.apportion.specs.Dividing.{sharesAfter}
 use Rattle.apportion.specs.Places.{listBelow, sumOf}
@@ -66,9 +67,9 @@ postCall group quantity operationFactor provisionFactor =
       «provision_factor» = provisionFactor;
     })
 
--- the double nearest to a decimal number, which is n / d: what a workbook holds of it
+-- the double m / 2^k, k above 0
 abbrev double : ℕ → ℕ → Float
-double n d = round binary64 false n d
+double m k = fin false m (negsuc (k - 1))
 
 -- a line for category 1, group 0: its three cells
 abbrev lineCall : Cell → Cell → Cell → Call
@@ -142,15 +143,15 @@ starred =
     ∷ []))
     (2 ∷ 11 ∷ [])
     (4 ∷ 17 ∷ [])
-    -- For request (iii), which has no number of its own: 12.5 units, 3.1 to 3.4 grams and 0.0625 grams per unit. The quantity is 12,500;
-    -- the span's ends become 3,100 and 3,400, and their mean 3,250 mg; 62.5 becomes 63 mg. A line with a blank cell and one whose span is
-    -- exchanged are refused and add nothing.
+    -- For request (iii); document 02 has no example. 12.5 units, 3.125 to 3.375 grams and 0.0625 grams per unit: the quantity is 12,500,
+    -- the span's ends become 3,125 and 3,375 mg and their mean is 3,250, and 62.5 becomes 63 mg. A line with a blank cell and one whose
+    -- span is exchanged are refused and add nothing.
     ∷ row
     (callsMade
     (Open 1
-    ∷ lineCall (Number (double 25 2)) (Span (double 31 10) (double 34 10)) (Number (double 1 16))
-    ∷ lineCall (Number (double 25 2)) Blank (Number (double 1 16))
-    ∷ lineCall (Number (double 25 2)) (Span (double 34 10) (double 31 10)) (Number (double 1 16))
+    ∷ lineCall (Number (double 25 1)) (Span (double 25 3) (double 27 3)) (Number (double 1 4))
+    ∷ lineCall (Number (double 25 1)) Blank (Number (double 1 4))
+    ∷ lineCall (Number (double 25 1)) (Span (double 27 3) (double 25 3)) (Number (double 1 4))
     ∷ enrolCall 1 0 100 0
     ∷ Close 1
     ∷ []))

@@ -148,7 +148,7 @@ abbrev pub tallyClose : Tally → ℕ → Tally
 tallyClose t category =
     record { categories = changedAt markClosed (t .categories) category; entries = t .entries; elements = t .elements }
 
--- what an accepted call makes of the tally
+-- what an accepted call makes of the tally; "in the tally an accepted line is this post, of its converted cells"
 abbrev pub tallied : Tally → Call → Tally
 tallied t (Open kind) = tallyOpen t kind
 tallied t (Post p) = tallyPost t p

@@ -20,8 +20,8 @@ use Rattle.conservation.proofs.Laws.{conserved as conserves, step-length}
 use Rattle.replay.specs.declared.cells.Cells.{Cells}
 use Rattle.replay.specs.declared.records.Words.{Words}
 use Rattle.replay.specs.Answers.{callOf, answered}
-use Rattle.replay.specs.Cells.{cellOf, noCells, withCell}
-use Rattle.replay.specs.Conserving.{wordsIn, recordWords, isCall, leavesBook, areOfList, cellsAfter, callsIn, Played, StartsList, ReplayConservation}
+use Rattle.replay.specs.Cells.{cellOf, noCells, withCell, cellsAfter}
+use Rattle.replay.specs.Conserving.{wordsIn, recordWords, isCall, leavesBook, areOfList, callsIn, Played, StartsList, ReplayConservation}
 use Rattle.replay.specs.Replay.{bad, lentCount, lentWords, withCells, called, divisionDone, changed, dumped, cellListed, lineDone, performed}
 use Rattle.replay.specs.Replay.{Machine}
 use Rattle.replay.specs.Stages.{recordBytes, Stage, onMachine, counted, due, operated, handled, replayedOf, recordsIn, replayed}
@@ -74,7 +74,7 @@ module _ (words : Words) (file : List ℕ) (machine : Machine) where
 
   -- a call of operations 2 to 7, which leaves the listed cells, and a line, which uses them up
   abbrev Made : Type 0
-  Made = Holding (step (lentWords machine) call .book) (cellsAfter words (machine .cells)) done
+  Made = Holding (step (lentWords machine) call .book) (cellsAfter (words .operation) words (machine .cells)) done
 
   returned-book : take (lentCount machine) (step (lentWords machine) call .book ++ drop (lentCount machine) (machine .memory)) ≡ step (lentWords machine) call .book
   returned-book = given-back (lentCount machine) (machine .memory) (step (lentWords machine) call .book) (step-length (lentWords machine) call)
@@ -111,8 +111,7 @@ module _ (words : Words) (file : List ℕ) (machine : Machine) where
       subst
       (λ (n : ℕ).
       performed n words file machine .good ≡ true
-      → Holding (step (lentWords machine) call .book) (cond (eqb n 16) (withCell (cellOf words) (machine .cells)) (cond (eqb n 17) noCells (machine .cells)))
-      (performed n words file machine))
+      → Holding (step (lentWords machine) call .book) (cellsAfter n words (machine .cells)) (performed n words file machine))
       (sym is) line-done
 
   call-made : isCall words ≡ true → done .good ≡ true → Made
@@ -122,7 +121,7 @@ module _ (words : Words) (file : List ℕ) (machine : Machine) where
 
   -- what else may stand in a list
   abbrev Passed : Type 0
-  Passed = Holding (lentWords machine) (cellsAfter words (machine .cells)) done
+  Passed = Holding (lentWords machine) (cellsAfter (words .operation) words (machine .cells)) done
 
   listed-passed : words .operation ≡ 16 → done .good ≡ true → Passed
   unfolding performed cellListed
@@ -185,7 +184,7 @@ onward run cells words = cond (isCall words) (next run (callOf words (cells .lin
 
 -- a record of a list makes its call, or leaves the book as it is
 record-played : (run : Run) (cells : Cells) (bytes : List ℕ) (stage : Stage) → Book run cells stage → isCall (wordsOf bytes) || leavesBook (wordsOf bytes) ≡ true
-    → handled bytes stage .machine .good ≡ true → Book (onward run cells (wordsOf bytes)) (cellsAfter (wordsOf bytes) cells) (handled bytes stage)
+    → handled bytes stage .machine .good ≡ true → Book (onward run cells (wordsOf bytes)) (cellsAfter (wordsOf bytes .operation) (wordsOf bytes) cells) (handled bytes stage)
 record-played run cells bytes stage before of-list good =
     let one = performs bytes stage (before .no-file) (no-load (wordsOf bytes) of-list) (uncut bytes stage good) in
     let held = go (isCall (wordsOf bytes)) refl of-list (rw one at good) in
@@ -193,7 +192,7 @@ record-played run cells bytes stage before of-list good =
   where
     go : (call : Bool) → isCall (wordsOf bytes) ≡ call → call || leavesBook (wordsOf bytes) ≡ true
         → performed (wordsOf bytes .operation) (wordsOf bytes) (stage .file) (stage .machine) .good ≡ true
-        → Holding (cond call (next run (callOf (wordsOf bytes) (cells .line))) run .book) (cellsAfter (wordsOf bytes) cells)
+        → Holding (cond call (next run (callOf (wordsOf bytes) (cells .line))) run .book) (cellsAfter (wordsOf bytes .operation) (wordsOf bytes) cells)
         (performed (wordsOf bytes .operation) (wordsOf bytes) (stage .file) (stage .machine))
     go true is of-list good =
         let made = call-made (wordsOf bytes) (stage .file) (stage .machine) is good in
@@ -214,7 +213,7 @@ unless-bad run cells false one more is fine on = let z : _≡_ {A = ℕ} 0 1 = c
 -- the listed cells after the records
 abbrev cellsPast : Cells → List Words → Cells
 cellsPast cells [] = cells
-cellsPast cells (words ∷ rest) = cellsPast (cellsAfter words cells) rest
+cellsPast cells (words ∷ rest) = cellsPast (cellsAfter (words .operation) words cells) rest
 
 -- so many records of a list
 plays : (left : ℕ) (run : Run) (cells : Cells) (bytes : List ℕ) (stage : Stage) → Book run cells stage → areOfList (wordsIn left bytes) ≡ true
@@ -225,7 +224,7 @@ plays (suc n) run cells bytes stage before of-list good =
     let words = wordsOf bytes in
     let done = handled bytes (counted stage) in
     let rest = wordsIn n (drop recordBytes bytes) in
-    let later-cells = cellsAfter words cells in
+    let later-cells = cellsAfter (words .operation) words cells in
     let each = both (isCall words || leavesBook words) (areOfList rest) of-list in
     unless-bad (after run (callsIn cells (words ∷ rest))) (cellsPast cells (words ∷ rest)) (done .machine .good) done
     (replayedOf n (drop recordBytes bytes) done) refl good

@@ -15,15 +15,15 @@ use Rattle.book.specs.declared.replies.Statement.{Statement}
 use Rattle.book.specs.Calls.{freshRefusal, freshBook}
 use Rattle.book.specs.Statements.{statementReply}
 use Rattle.conservation.specs.declared.Call.{Call}
-use Rattle.conservation.specs.declared.Call.the-variants.{Open, Post, Line as Posted, Strike, Enrol, Quote, Close}
+use Rattle.conservation.specs.declared.Call.the-variants.{Open, Post, Line, Strike, Enrol, Quote, Close}
 use Rattle.conservation.specs.Runs.{step}
 use Rattle.book_file.specs.declared.answers.Numbers.{Numbers}
 use Rattle.book_file.specs.Loading.{loadNumbers, loadBook}
-use Rattle.workbook.specs.declared.lines.Line.{Line}
+use Rattle.workbook.specs.declared.lines.Line.{Line as WorkbookLine}
 use Rattle.replay.specs.declared.output.Answer.{Answer}
 use Rattle.replay.specs.declared.records.Words.{Words}
 
--- the arguments of a post, an enrolment and a quote, in the order of documents 01 and 02
+-- the arguments of a post, an enrolment, a quote and a line, in the order of documents 01 and 02
 abbrev postOf : Words → PostArguments
 postOf words =
     record {
@@ -56,11 +56,11 @@ quoteOf words =
       «provision_intensity» = words .sixth;
     }
 
-abbrev lineOf : Words → Line → LineArguments
+abbrev lineOf : Words → WorkbookLine → LineArguments
 lineOf words line = record { category = words .first; group = words .second; line = line }
 
 -- the call that the words of operations 2 to 7 and 17 ask for, 17 with the line of its cells
-unfoldable pub callOf : Words → Line → Call
+unfoldable pub callOf : Words → WorkbookLine → Call
 callOf words line =
     cond (eqb (words .operation) 2) (Open (words .first))
     (cond (eqb (words .operation) 3) (Post (postOf words))
@@ -68,7 +68,7 @@ callOf words line =
     (cond (eqb (words .operation) 5) (Enrol (enrolOf words))
     (cond (eqb (words .operation) 6) (Quote (quoteOf words))
     (cond (eqb (words .operation) 7) (Close (words .first))
-    (Posted (lineOf words line)))))))
+    (Line (lineOf words line)))))))
 
 -- the numbers of a reply, of which strike and close have the refusal number alone
 abbrev pub replyCount : ℕ → ℕ
@@ -100,7 +100,7 @@ answeredOf answer book = answering (take (answer .count) (answer .numbers)) book
 
 -- on the lent words, 15 with the bytes of its file and 17 with the line of its cells; a statement and an intensity leave the words as
 -- they are
-unfoldable pub answered : ℕ → Words → Line → List ℕ → List ℕ → Answered
+unfoldable pub answered : ℕ → Words → WorkbookLine → List ℕ → List ℕ → Answered
 answered operation words line ws file =
     cond (eqb operation 1) (answering (freshRefusal ws ∷ []) (freshBook ws))
     (cond (eqb operation 8) (answering (statementReplyNumbers (statementReply ws (words .first))) ws)

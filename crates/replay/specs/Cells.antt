@@ -1,4 +1,4 @@
--- Operation 16: the cells of a line. Assumes nothing.
+-- Operations 16 and 17: the listed cells of a line. Assumes nothing.
 use Prim.Native.Nat.{ℕ}
 use mathlib.Core.Bool.{cond}
 use lib.Dec.{eqb}
@@ -15,7 +15,7 @@ cellOf words =
     (cond (eqb (words .first) 1) (Number (ofBits binary64 (words .second)))
     (Span (ofBits binary64 (words .second)) (ofBits binary64 (words .third))))
 
--- so many cells of a line, from the left, with blank ones behind them
+-- so many listed cells of a line, from the left
 abbrev pub cellsBy : ℕ → Cell → Cell → Cell → Cells
 cellsBy count quantity operation provision =
     record {
@@ -32,3 +32,8 @@ withCell cell cells =
     cond (eqb (cells .count) 0) (cellsBy 1 cell Blank Blank)
     (cond (eqb (cells .count) 1) (cellsBy 2 (cells .line .quantity) cell Blank)
     (cellsBy 3 (cells .line .quantity) (cells .line .«operation_factor») cell))
+
+-- the listed cells after an operation: 16 lists one, 17 uses them up
+abbrev pub cellsAfter : ℕ → Words → Cells → Cells
+cellsAfter operation words cells =
+    cond (eqb operation 16) (withCell (cellOf words) cells) (cond (eqb operation 17) noCells cells)

@@ -14,7 +14,7 @@ use Rattle.conservation.specs.Runs.{runOf}
 use Rattle.replay.specs.declared.cells.Cells.{Cells}
 use Rattle.replay.specs.declared.records.Words.{Words}
 use Rattle.replay.specs.Answers.{callOf}
-use Rattle.replay.specs.Cells.{cellOf, noCells, withCell}
+use Rattle.replay.specs.Cells.{cellsAfter}
 use Rattle.replay.specs.Replay.{lentWords}
 use Rattle.replay.specs.Stages.{recordBytes, Stage, handled, recordsIn, replayed}
 use Rattle.replay.specs.Words.{wordsOf}
@@ -44,16 +44,13 @@ abbrev pub areOfList : List Words → Bool
 areOfList [] = true
 areOfList (words ∷ rest) = (isCall words || leavesBook words) && areOfList rest
 
--- the listed cells after a record: a cell is listed with them, and a line uses them up
-abbrev pub cellsAfter : Words → Cells → Cells
-cellsAfter words cells =
-    cond (eqb (words .operation) 16) (withCell (cellOf words) cells) (cond (eqb (words .operation) 17) noCells cells)
-
--- the calls of the records, of which the first begins with these cells listed
+-- the calls of the records, where these cells are listed before them
 abbrev pub callsIn : Cells → List Words → List Call
 callsIn cells [] = []
 callsIn cells (words ∷ rest) =
-    cond (isCall words) (callOf words (cells .line) ∷ callsIn (cellsAfter words cells) rest) (callsIn (cellsAfter words cells) rest)
+    cond (isCall words)
+    (callOf words (cells .line) ∷ callsIn (cellsAfter (words .operation) words cells) rest)
+    (callsIn (cellsAfter (words .operation) words cells) rest)
 
 -- a list of calls was played from a fresh book that these words became: no file is on its way, the lent words are the book of a run
 -- of the calls, and demand 3 holds of them

@@ -10,7 +10,7 @@ use Rattle.replay.specs.declared.cells.Cells.{Cells}
 use Rattle.replay.specs.declared.records.Words.{Words}
 use Rattle.replay.specs.declared.state.State.{State}
 use Rattle.replay.specs.Answers.{Answered, answered}
-use Rattle.replay.specs.Cells.{cellOf, noCells, withCell}
+use Rattle.replay.specs.Cells.{noCells, cellsAfter}
 use Rattle.replay.specs.Text.{numbersLine}
 use Rattle.replay.specs.Waiting.{waitingIn, put}
 
@@ -137,11 +137,11 @@ dumped start count machine =
 -- operation 16: a cell is listed, where its form is one and there is room
 unfoldable pub cellListed : Words → Machine → Machine
 cellListed words machine =
-    cond (ltb 2 (words .first) || ltb 2 (machine .cells .count)) (bad machine) (withCells (withCell (cellOf words) (machine .cells)) machine)
+    cond (ltb 2 (words .first) || ltb 2 (machine .cells .count)) (bad machine) (withCells (cellsAfter 16 words (machine .cells)) machine)
 
 -- operation 17: a line of the listed cells, where they are three, is posted, and the list is emptied
 unfoldable pub lineDone : Words → List ℕ → Machine → Machine
-lineDone words file machine = cond (eqb (machine .cells .count) 3) (withCells noCells (called 17 words file machine)) (bad machine)
+lineDone words file machine = cond (eqb (machine .cells .count) 3) (withCells (cellsAfter 17 words (machine .cells)) (called 17 words file machine)) (bad machine)
 
 -- what an operation does with the words of its record, 15 with the bytes of its file
 unfoldable pub performed : ℕ → Words → List ℕ → Machine → Machine

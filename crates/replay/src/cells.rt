@@ -12,7 +12,7 @@ use crate::state::State;
 use workbook::Cell;
 use workbook::Line;
 
-// The cells that are listed: so many of a line, from the left. What stands behind them is of no meaning.
+// The cells that are listed: so many of a line, from the left. Those behind them are blank.
 pub struct Cells {
     pub count: u64,
     pub line: Line,
@@ -36,6 +36,7 @@ pub fn none() -> Cells
 pub fn list(words: Words, state: State) -> State
     ensures { λ r. ⌜ ((memory file buffer : List ℕ) → stageOf memory file buffer r
         ≡ onMachine (cellListed words) (stageOf memory file buffer state)) ⌝ }
+    ensures { λ r. ⌜ r .output ≡ state .output ⌝ }
 {
     let cells = state.cells;
     if (words.first > 2) | (cells.count > 2) {
@@ -48,6 +49,7 @@ pub fn list(words: Words, state: State) -> State
 pub fn with_cells(cells: Cells, mut state: State) -> State
     ensures { λ r. ⌜ ((memory file buffer : List ℕ) → stageOf memory file buffer r
         ≡ onMachine (withCells cells) (stageOf memory file buffer state)) ⌝ }
+    ensures { λ r. ⌜ r .output ≡ state .output ⌝ }
 {
     state.cells = cells;
     state
@@ -101,11 +103,16 @@ fn cell_of(words: Words) -> Cell
     }
 }
 
-// The double of these bits. Those of a NaN are not made into a double as they are: a division makes one.
+// The weight of the sign, and the bits of infinity: above these, without the sign, are those of the NaNs.
+const SIGN: u64 = 9_223_372_036_854_775_808;
+
+const INFINITY: u64 = 9_218_868_437_227_405_312;
+
+// The double of these bits. Those of a NaN cannot be made into one, so a division makes it.
 fn double(bits: u64) -> f64
     ensures { λ r. ⌜ r ≡ ofBits binary64 bits ⌝ }
 {
-    if bits % 9_223_372_036_854_775_808 > 9_218_868_437_227_405_312 {
+    if bits % SIGN > INFINITY {
         return 0.0 / 0.0;
     }
     f64::from_bits(bits)

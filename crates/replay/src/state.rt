@@ -51,6 +51,7 @@ pub fn first() -> State
 // The record is bad.
 pub fn bad(mut state: State) -> State
     ensures { λ r. ⌜ ((memory file buffer : List ℕ) → stageOf memory file buffer r ≡ onMachine bad (stageOf memory file buffer state)) ⌝ }
+    ensures { λ r. ⌜ r .output ≡ state .output ⌝ }
 {
     state.good = false;
     state

@@ -1,22 +1,22 @@
 -- A cell by its grounds, and a line by its cells. Assumes nothing.
 use mathlib.Core.Bool.{Bool, true, false, cond, _||_, true≢false}
 use mathlib.Core.List.{List, _++_}
-use mathlib.Core.Logic.{_⊎_, inl, inr}
 use mathlib.Core.Path.{_≡_, _∙_, ap, refl, sym}
 use Prim.Native.Nat.{ℕ, zero, suc}
 use native.Mathlib.Omega.{arith}
+use lib.Dec.{eqb}
 use lib.Ieee.{Float, lt}
 use Rattle.apportion.specs.Grounds.{accepted, Ground, firstOf}
-use Rattle.apportion.proofs.Grounds.{refused-old}
+use Rattle.apportion.proofs.Grounds.{refused-old, neverGiven, never-both}
 use Rattle.workbook.specs.declared.cells.Cell.{Cell}
 use Rattle.workbook.specs.declared.cells.Cell.the-variants.{Blank, Number, Span}
 use Rattle.workbook.specs.declared.cells.Conversion.{Conversion}
 use Rattle.workbook.specs.declared.cells.Conversion.the-variants.{Value, Refused}
 use Rattle.workbook.specs.declared.lines.Line.{Line}
 use Rattle.workbook.specs.Doubles.{exact, thousandths, isRefused}
-use Rattle.workbook.specs.Cells.{quantityLimit, factorLimit, cellGrounds, cellRefusal, mean, cellValue, conversionBy, conversionOf, refusalOf, valueOf}
-use Rattle.workbook.specs.Inner.Steps.{firstNumber}
-use Rattle.workbook.specs.Lines.{lineRefusal, convertedLine}
+use Rattle.workbook.specs.Cells.{quantityLimit, factorLimit, cellGrounds, cellRefusal, mean, cellValue}
+use Rattle.workbook.specs.Inner.Steps.{conversionBy, conversionOf, refusalOf, valueOf, firstNumber}
+use Rattle.workbook.specs.Lines.{lineGrounds, lineRefusal, convertedLine}
 
 -- a conversion by its number and its value
 by-number : (refusal value : ℕ) → (refusalOf (conversionBy refusal value) ≡ refusal) × (valueOf (conversionBy refusal value) ≡ accepted refusal value 0)
@@ -88,28 +88,11 @@ cell-first limit (Span x y) rest = go (isRefused limit x || isRefused limit y) (
     go false true = refl
     go false false = refl
 
--- a number of cells: none holds, 15 or 16
-abbrev pub OfCells : ℕ → Type 0
-OfCells n = (n ≡ 0) ⊎ ((n ≡ 15) ⊎ (n ≡ 16))
-
-cell-number : (limit : ℕ) (cell : Cell) → OfCells (cellRefusal limit cell)
-cell-number limit Blank = inr (inl refl)
-cell-number limit (Number x) = go (isRefused limit x)
-  where
-    go : (b : Bool) → OfCells (cond b 15 0)
-    go true = inr (inl refl)
-    go false = inl refl
-cell-number limit (Span x y) = go (isRefused limit x || isRefused limit y) (lt y x)
-  where
-    go : (b d : Bool) → OfCells (cond b 15 (cond d 16 0))
-    go true d = inr (inl refl)
-    go false true = inr (inr refl)
-    go false false = inl refl
-
-one-of-three : (a b c : ℕ) → OfCells a → OfCells b → OfCells c → OfCells (firstNumber a b c)
-one-of-three zero zero c of-a of-b of-c = of-c
-one-of-three zero (suc b) c of-a of-b of-c = of-b
-one-of-three (suc a) b c of-a of-b of-c = of-a
+-- a cell gives 15 and 16 alone
+cell-never : (number limit : ℕ) (cell : Cell) → eqb number 15 ≡ false → eqb number 16 ≡ false → neverGiven number (cellGrounds limit cell) ≡ true
+cell-never number limit Blank e f = rw e
+cell-never number limit (Number x) e f = rw e
+cell-never number limit (Span x y) e f = rw (e, f)
 
 -- where the first of three numbers is 0, all three are
 none-of-three : (a b c : ℕ) → firstNumber a b c ≡ 0 → (a ≡ 0) × (b ≡ 0) × (c ≡ 0)
@@ -135,14 +118,14 @@ module _ (line : Line) where
       cell-first quantityLimit (line .quantity) (cellGrounds factorLimit (line .«operation_factor») ++ p)
       ∙ ap (λ (n : ℕ). accepted quantityRefusal n quantityRefusal) (cell-first factorLimit (line .«operation_factor») p)
 
-  -- a line's number is one of cells
-  pub line-number : OfCells (lineRefusal line)
-  line-number =
-      rw refusal-by-cells
-      (one-of-three quantityRefusal operationRefusal provisionRefusal
-      (cell-number quantityLimit (line .quantity))
-      (cell-number factorLimit (line .«operation_factor»))
-      (cell-number factorLimit (line .«provision_factor»)))
+  -- and so does a line
+  pub line-never : (number : ℕ) → eqb number 15 ≡ false → eqb number 16 ≡ false → neverGiven number (lineGrounds line) ≡ true
+  line-never number e f =
+      let operation = cellGrounds factorLimit (line .«operation_factor») in
+      let provision = cellGrounds factorLimit (line .«provision_factor») in
+      never-both number (cellGrounds quantityLimit (line .quantity)) (operation ++ provision) (cell-never number quantityLimit (line .quantity) e f)
+      (never-both number operation provision (cell-never number factorLimit (line .«operation_factor») e f)
+      (cell-never number factorLimit (line .«provision_factor») e f))
 
   -- an accepted line has three accepted cells
   pub cells-accepted : lineRefusal line ≡ 0 → (quantityRefusal ≡ 0) × (operationRefusal ≡ 0) × (provisionRefusal ≡ 0)

@@ -1,11 +1,11 @@
 -- The laws of conversion. Assumes nothing.
 use mathlib.Core.Bool.{Bool, true, false, cond, not, _||_}
 use mathlib.Core.Path.{_≡_, _∙_, refl}
-use Prim.Native.Nat.{ℕ, _+_, _*_, _≤_, _<_, _^_}
+use Prim.Native.Nat.{ℕ, _+_, _*_, _≤_, _<_}
 use native.Mathlib.Omega.{arith}
 use borrow.Author.Tests.{ltb-false, le-ltb}
 use lib.IntN.{pos}
-use lib.Ieee.{Float, nan, inf, fin, up, lt, binary64, ofInt}
+use lib.Ieee.{Float, nan, inf, fin, lt, binary64, ofInt}
 use lib.Ieee.Back.{round-whole}
 use lib.Ieee.Exact.{HasValue}
 use lib.Ieee.Fits.{down-pos}
@@ -15,18 +15,17 @@ use Rattle.apportion.proofs.Grounds.{or-none}
 use Rattle.apportion.proofs.Rounding.{nearest-near, nearest-most}
 use Rattle.workbook.specs.declared.cells.Cell.{Cell}
 use Rattle.workbook.specs.declared.cells.Cell.the-variants.{Blank, Number, Span}
-use Rattle.workbook.specs.declared.cells.Conversion.the-variants.{Value}
 use Rattle.workbook.specs.declared.lines.Line.{Line}
 use Rattle.workbook.specs.Doubles.{exact, thousandths, isFinite, isBelowZero, isAbove, isRefused}
-use Rattle.workbook.specs.Cells.{quantityLimit, factorLimit, cellRefusal, mean, cellValue, conversionOf}
-use Rattle.workbook.specs.Inner.Steps.{fractionConversion}
+use Rattle.workbook.specs.Cells.{quantityLimit, factorLimit, cellRefusal, mean, cellValue}
 use Rattle.workbook.specs.Lines.{lineRefusal}
-use Rattle.workbook.proofs.SameValue.{value-converted}
+use Rattle.workbook.proofs.SameValue.{value-refused, value-thousandths}
 use Rattle.workbook.proofs.CellGrounds.{cells-accepted}
-pub use Rattle.workbook.proofs.CellGrounds.{OfCells, line-number}
+pub use Rattle.workbook.proofs.CellGrounds.{line-never}
 
--- A converted double is at most half a thousandth from its exact value, and the mean of a span at most half a unit from that of its ends.
-some-denominator : (x : Float) → 0 < exact x .denominator
+-- The exact value of a double is a fraction with a denominator above 0, and what the double becomes is at most half a thousandth from it;
+-- what a span becomes is at most half a thousandth from the mean of its two converted ends.
+pub some-denominator : (x : Float) → 0 < exact x .denominator
 some-denominator nan = omega arith
 some-denominator (inf s) = omega arith
 some-denominator (fin s m e) = down-pos e
@@ -75,12 +74,11 @@ line-most line e =
       cell-most factorLimit (line .«provision_factor») (each .2),
     )
 
--- A whole number of units within its limit becomes exactly 1,000 times itself: of every double that has this value,
-pub whole-converted : (limit k : ℕ) (x : Float) → HasValue x false k 1 → k ≤ limit → conversionOf limit (Number x) ≡ Value (1000 * k)
-unfolding fractionConversion
+-- A whole number of units within its limit is not refused and becomes exactly 1,000 times itself: as every double that has this value,
+pub whole-converted : (limit k : ℕ) (x : Float) → HasValue x false k 1 → k ≤ limit
+    → (cellRefusal limit (Number x) ≡ 0) × (cellValue (Number x) ≡ 1000 * k)
 whole-converted limit k x v h =
-    value-converted limit false k 1 (omega arith) x v refl
-    ∙ rw (le-ltb (limit * 1) k (omega arith), whole)
+    (rw (value-refused limit false k 1 (omega arith) x v, le-ltb (limit * 1) k (omega arith)), value-thousandths limit false k 1 (omega arith) x v ∙ whole)
   where
     whole : thousandths (over k 1) ≡ 1000 * k
     whole = omega arith

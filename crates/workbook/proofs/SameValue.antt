@@ -1,5 +1,5 @@
 -- A fraction that is written otherwise is converted alike, and so is a double that has its value. Assumes nothing.
-use mathlib.Core.Bool.{Bool, true, false, not, _&&_, _||_}
+use mathlib.Core.Bool.{Bool, true, false, _&&_, _||_}
 use mathlib.Core.Logic.{⊎-elim}
 use mathlib.Core.Path.{_≡_, refl, sym}
 use Prim.Native.Nat.{ℕ, zero, suc, _*_, _≤_, _<_}
@@ -16,8 +16,7 @@ use Rattle.apportion.proofs.Rounding.{nearest-same}
 use Rattle.workbook.specs.declared.cells.Cell.the-variants.{Number}
 use Rattle.workbook.specs.declared.cells.Conversion.the-variants.{Refused}
 use Rattle.workbook.specs.Doubles.{exact, thousandths, isAbove, isRefused}
-use Rattle.workbook.specs.Cells.{conversionOf}
-use Rattle.workbook.specs.Inner.Steps.{fractionConversion}
+use Rattle.workbook.specs.Inner.Steps.{conversionOf, fractionConversion}
 
 -- two tests that say the same
 same-test : (a b c d : ℕ) → (a < b → c < d) → (c < d → a < b) → ltb a b ≡ ltb c d
@@ -62,7 +61,7 @@ module _ (limit : ℕ) (s : Bool) (a c : ℕ) (some : 0 < c) where
       same-test 0 m 0 a (some-too m (up e * c) a (down e) (mul-pos (up-pos e) some) one) (some-too a (down e) m (up e * c) (down-pos e) (sym one)) in
       rw (v .0, sign, above-same limit (m * up e) (down e) a c (down-pos e) some (v .1))
 
-  value-thousandths : (x : Float) → HasValue x s a c → thousandths (exact x) ≡ thousandths (over a c)
+  pub value-thousandths : (x : Float) → HasValue x s a c → thousandths (exact x) ≡ thousandths (over a c)
   value-thousandths nan v = absurd v
   value-thousandths (inf t) v = absurd v
   value-thousandths (fin t m e) v = thousandths-same (m * up e) (down e) a c (down-pos e) some (v .1)

@@ -1,15 +1,13 @@
--- "A cell is blank, one double, or a span of two doubles such as the default ranges of Annex I." Its grounds, and what it comes to.
+-- "A cell is blank, one double, or a span of two doubles such as the default ranges of Annex I." Its grounds, and what it becomes.
 -- Assumes nothing.
 use mathlib.Core.Bool.{true, _||_}
 use mathlib.Core.List.{List, [], _∷_}
 use Prim.Native.Nat.{ℕ, _+_}
 use lib.Ieee.{lt}
 use Rattle.apportion.specs.Fractions.{nearest}
-use Rattle.apportion.specs.Grounds.{accepted, Ground, firstOf}
+use Rattle.apportion.specs.Grounds.{Ground, firstOf}
 use Rattle.workbook.specs.declared.cells.Cell.{Cell}
 use Rattle.workbook.specs.declared.cells.Cell.the-variants.{Blank, Number, Span}
-use Rattle.workbook.specs.declared.cells.Conversion.{Conversion}
-use Rattle.workbook.specs.declared.cells.Conversion.the-variants.{Value, Refused}
 use Rattle.workbook.specs.Doubles.{exact, thousandths, isRefused}
 
 -- "The limits are 10^9 for a quantity and 10^7 for a factor"
@@ -33,25 +31,8 @@ cellRefusal limit cell = firstOf (cellGrounds limit cell)
 abbrev pub mean : ℕ → ℕ → ℕ
 mean a b = nearest (a + b) 2
 
--- what a cell becomes, in thousandths; a blank one nothing
+-- what a cell becomes, in thousandths. Of a blank one it is 0, which nothing takes
 abbrev pub cellValue : Cell → ℕ
 cellValue Blank = 0
 cellValue (Number x) = thousandths (exact x)
 cellValue (Span x y) = mean (thousandths (exact x)) (thousandths (exact y))
-
--- a value, or a refusal number
-abbrev pub conversionBy : ℕ → ℕ → Conversion
-conversionBy refusal value = accepted refusal (Value value) (Refused refusal)
-
--- what a cell comes to
-unfoldable pub conversionOf : ℕ → Cell → Conversion
-conversionOf limit cell = conversionBy (cellRefusal limit cell) (cellValue cell)
-
--- document 02's number for each case, 0 where there is a value; and the value, 0 beside a number
-abbrev pub refusalOf : Conversion → ℕ
-refusalOf (Value value) = 0
-refusalOf (Refused number) = number
-
-abbrev pub valueOf : Conversion → ℕ
-valueOf (Value value) = value
-valueOf (Refused number) = 0

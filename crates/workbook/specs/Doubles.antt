@@ -17,7 +17,6 @@ exact (fin s m e) = over (m * up e) (down e)
 abbrev pub thousandths : Fraction → ℕ
 thousandths x = nearest (1000 * x .numerator) (x .denominator)
 
--- "a double that is not finite, is below zero or is above its limit"
 abbrev pub isFinite : Float → Bool
 isFinite nan = false
 isFinite (inf s) = false
@@ -29,8 +28,10 @@ isBelowZero nan = false
 isBelowZero (inf s) = s
 isBelowZero (fin s m e) = s && ltb 0 m
 
+-- the fraction is above a whole number
 abbrev pub isAbove : ℕ → Fraction → Bool
 isAbove limit x = ltb (limit * x .denominator) (x .numerator)
 
+-- "a double that is not finite, is below zero or is above its limit"
 unfoldable pub isRefused : ℕ → Float → Bool
 isRefused limit x = not (isFinite x) || isBelowZero x || isAbove limit (exact x)

@@ -1,9 +1,9 @@
-// A cell, and what it comes to.
+// A cell, and its conversion.
 ghost use mathlib.Core.Path.{_≡_};
-ghost use Prim.Native.Nat.{_≤_};
 ghost use Rattle.apportion.specs.Grounds.{accepted};
 ghost use Rattle.workbook.specs.declared.cells.Cell.the-variants.{Span};
-ghost use Rattle.workbook.specs.Cells.{quantityLimit, cellRefusal, cellValue, conversionOf, mean, refusalOf, valueOf};
+ghost use Rattle.workbook.specs.Cells.{cellRefusal, cellValue, mean};
+ghost use Rattle.workbook.specs.Inner.Steps.{conversionOf, refusalOf, valueOf};
 use crate::doubles;
 
 pub enum Cell {
@@ -18,7 +18,7 @@ pub struct Ends {
     pub second: f64,
 }
 
-// What a cell comes to.
+// What a cell is converted to.
 pub enum Conversion {
     // In thousandths.
     Value(u64),
@@ -27,8 +27,7 @@ pub enum Conversion {
 }
 
 // Converts a cell whose limit is this.
-pub fn convert_cell(cell: Cell, limit: u64) -> Conversion
-    requires { ⌜ limit ≤ quantityLimit ⌝ }
+pub fn convert_cell(cell: Cell, limit: u32) -> Conversion
     ensures { λ r. ⌜ r ≡ conversionOf limit cell ⌝ }
     ensures { λ r. ⌜ refusalOf r ≡ cellRefusal limit cell ⌝ }
     ensures { λ r. ⌜ valueOf r ≡ accepted (cellRefusal limit cell) (cellValue cell) 0 ⌝ }
@@ -41,8 +40,7 @@ pub fn convert_cell(cell: Cell, limit: u64) -> Conversion
 }
 
 // Converts a span.
-fn convert_span(span: Ends, limit: u64) -> Conversion
-    requires { ⌜ limit ≤ quantityLimit ⌝ }
+fn convert_span(span: Ends, limit: u32) -> Conversion
     ensures { λ r. ⌜ r ≡ conversionOf limit (Span (span .first) (span .second)) ⌝ }
 {
     let first = doubles::convert_double(span.first, limit);

@@ -1,11 +1,10 @@
-// What a double comes to. Nothing is worked out in doubles: the bits are taken apart, and the rest is whole numbers.
+// The conversion of a double. Nothing is worked out in doubles: the bits are taken apart, and the rest is whole numbers.
 ghost use mathlib.Core.Path.{_≡_};
-ghost use Prim.Native.Nat.{_≤_, _<_, _/_, _^_};
+ghost use Prim.Native.Nat.{_<_, _/_, _^_};
 ghost use lib.Ieee.{binary64, ofBits};
 ghost use Rattle.apportion.specs.Fractions.{over};
 ghost use Rattle.workbook.specs.declared.cells.Cell.the-variants.{Number};
-ghost use Rattle.workbook.specs.Cells.{quantityLimit, conversionOf};
-ghost use Rattle.workbook.specs.Inner.Steps.{fractionConversion};
+ghost use Rattle.workbook.specs.Inner.Steps.{conversionOf, fractionConversion};
 use crate::cells::Conversion;
 
 // The weights of the sign and of the leading digit in the bits of a double.
@@ -14,8 +13,7 @@ const SIGN: u64 = 9_223_372_036_854_775_808;
 const LEADING: u64 = 4_503_599_627_370_496;
 
 // A double as a cell of its own: its thousandths, or 15. A NaN, which alone differs from itself, has no bits of its own.
-pub fn convert_double(x: f64, limit: u64) -> Conversion
-    requires { ⌜ limit ≤ quantityLimit ⌝ }
+pub fn convert_double(x: f64, limit: u32) -> Conversion
     ensures { λ r. ⌜ r ≡ conversionOf limit (Number x) ⌝ }
 {
     if x == x {
@@ -24,10 +22,9 @@ pub fn convert_double(x: f64, limit: u64) -> Conversion
     Conversion::Refused(15)
 }
 
-// The same of the double with these bits. Those past the sign's weight are below zero; the sign's alone are negative zero. With a field
-// above 1074 a double is 2^52 or more, or is not finite.
-fn convert_bits(bits: u64, limit: u64) -> Conversion
-    requires { ⌜ limit ≤ quantityLimit ⌝ }
+// The same of the double with these bits. Those past the sign's weight are of a double below zero or not finite; the sign's alone are
+// negative zero. With an exponent's field above 1074 a double is 2^52 or more, or is not finite.
+fn convert_bits(bits: u64, limit: u32) -> Conversion
     ensures { λ r. ⌜ r ≡ conversionOf limit (Number (ofBits binary64 bits)) ⌝ }
 {
     if bits > SIGN {
@@ -44,14 +41,14 @@ fn convert_bits(bits: u64, limit: u64) -> Conversion
     convert_fraction(LEADING + digits, 1075 - field, limit)
 }
 
-// The same of a fraction, digits / 2^places.
-fn convert_fraction(digits: u64, places: u64, limit: u64) -> Conversion
+// The same of a fraction, digits / 2^places. It is above the limit exactly where (digits - 1) / 2^places, rounded down, reaches it. Its
+// thousandths are half of (2000 × digits / 2^places, rounded down, and 1); the product fits in 64 bits.
+fn convert_fraction(digits: u64, places: u64, limit: u32) -> Conversion
     requires { ⌜ digits < 2 ^ 53 ⌝ }
-    requires { ⌜ limit ≤ quantityLimit ⌝ }
     ensures { λ r. ⌜ r ≡ fractionConversion limit (over digits (2 ^ places)) ⌝ }
 {
     if digits > 0 {
-        if shifted(digits - 1, places) >= limit {
+        if shifted(digits - 1, places) >= limit as u64 {
             return Conversion::Refused(15);
         }
     }

@@ -6,9 +6,9 @@ use crate::cells;
 use crate::cells::Cell;
 
 // The limits: 10^9 for a quantity, 10^7 for a factor.
-const MOST_QUANTITY: u64 = 1_000_000_000;
+const QUANTITY_LIMIT: u32 = 1_000_000_000;
 
-const MOST_FACTOR: u64 = 10_000_000;
+const FACTOR_LIMIT: u32 = 10_000_000;
 
 pub struct Line {
     // In units.
@@ -35,9 +35,9 @@ pub fn convert(line: Line) -> ConvertedLine
     let quantity_cell = line.quantity;
     let operation_cell = line.operation_factor;
     let provision_cell = line.provision_factor;
-    let quantity = cells::convert_cell(quantity_cell, MOST_QUANTITY);
-    let operation = cells::convert_cell(operation_cell, MOST_FACTOR);
-    let provision = cells::convert_cell(provision_cell, MOST_FACTOR);
+    let quantity = cells::convert_cell(quantity_cell, QUANTITY_LIMIT);
+    let operation = cells::convert_cell(operation_cell, FACTOR_LIMIT);
+    let provision = cells::convert_cell(provision_cell, FACTOR_LIMIT);
     let refusal = first_number(
         cells::refusal_of(quantity),
         cells::refusal_of(operation),

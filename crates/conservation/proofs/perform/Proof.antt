@@ -23,8 +23,8 @@ enum-known-call-3 c = search needs
 post-line-requires : tie.Need-post-line-requires
 post-line-requires c κs = search needs
 
-enum-known-call-7 : tie.Need-enum-known-call-7
-enum-known-call-7 c = search needs
+enum-known-call-4 : tie.Need-enum-known-call-4
+enum-known-call-4 c = search needs
 
 strike-requires : tie.Need-strike-requires
 strike-requires c κs = search needs
@@ -32,20 +32,20 @@ strike-requires c κs = search needs
 refusal-alone-requires : tie.Need-refusal-alone-requires
 refusal-alone-requires c κs = search needs
 
-enum-known-call-4 : tie.Need-enum-known-call-4
-enum-known-call-4 c = search needs
+enum-known-call-5 : tie.Need-enum-known-call-5
+enum-known-call-5 c = search needs
 
 enrol-requires : tie.Need-enrol-requires
 enrol-requires c κs = search needs
 
-enum-known-call-5 : tie.Need-enum-known-call-5
-enum-known-call-5 c = search needs
+enum-known-call-6 : tie.Need-enum-known-call-6
+enum-known-call-6 c = search needs
 
 quote-requires : tie.Need-quote-requires
 quote-requires c κs = search needs
 
-enum-known-call-6 : tie.Need-enum-known-call-6
-enum-known-call-6 c = search needs
+enum-known-call-7 : tie.Need-enum-known-call-7
+enum-known-call-7 c = search needs
 
 close-requires : tie.Need-close-requires
 close-requires c κs = search needs

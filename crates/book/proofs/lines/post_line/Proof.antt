@@ -3,7 +3,7 @@ use mathlib.Core.Path.{_∙_, ap, sym}
 use borrow.Author.Needs.{needs}
 use Rattle.workbook.specs.declared.lines.ConvertedLine.{ConvertedLine}
 use Rattle.book.specs.Calls.{refusalAlone, postReply, postBook}
-use Rattle.book.proofs.LinesAsPosts.{turned-away, as-posted, postWith, converted-post}
+use Rattle.book.proofs.LinesAsPosts.{cells-refused, as-posted, postWith, converted-post}
 use Rattle.book.proofs.lines.post_line.Statement.{statement}
 use Rattle.book.proofs.lines.post_line.Tie as tie
 
@@ -18,8 +18,8 @@ returns c =
     let made = c .before .before .before in
     let args = made .before .before .before .args in
     let number = ap (λ (r : ConvertedLine). r .refusal) (made .convert .ensures) in
-    let away = turned-away (args .book .now) (args .l) (λ z. c .before .if1 .taken (number ∙ z)) in
-    (c .refusal-alone .ensures ∙ ap refusalAlone number ∙ sym (away .reply), sym (away .book))
+    let bad = cells-refused (args .book .now) (args .l) (λ z. c .before .if1 .taken (number ∙ z)) in
+    (c .refusal-alone .ensures ∙ ap refusalAlone number ∙ sym (bad .reply), sym (bad .book))
 
 post-requires : tie.Need-post-requires
 post-requires c κs = search needs

@@ -12,7 +12,7 @@ bad-requires c κs = search needs
 
 returns : tie.Need-returns
 unfolding lineDone
-returns c = c .bad .ensures _ _ _ ∙ rw (ne-eqb _ 3 (c .before .if1 .taken))
+returns c = c .bad .ensures .0 _ _ _ ∙ rw (ne-eqb _ 3 (c .before .if1 .taken))
 
 none-requires : tie.Need-none-requires
 none-requires c κs = search needs
@@ -31,7 +31,7 @@ unfolding lineDone
 returns-2 c =
     let done = c .before .before .before in
     let none = done .before .before .before in
-    c .with-cells .ensures _ _ _
+    c .with-cells .ensures .0 _ _ _
     ∙ ap (onMachine (withCells (none .none .result))) (done .call .ensures)
     ∙ rw (none .none .ensures, none .before .if1 .left)
 

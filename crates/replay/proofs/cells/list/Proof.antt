@@ -10,7 +10,7 @@ bad-requires c κs = search needs
 
 returns : tie.Need-returns
 unfolding cellListed
-returns c = λ memory file buffer. c .bad .ensures memory file buffer ∙ rw (c .before .if1 .taken)
+returns c = (λ memory file buffer. c .bad .ensures .0 memory file buffer ∙ rw (c .before .if1 .taken), c .bad .ensures .1)
 
 cell-of-requires : tie.Need-cell-of-requires
 cell-of-requires c κs = search needs
@@ -23,9 +23,12 @@ with-cells-requires c κs = search needs
 
 returns-2 : tie.Need-returns-2
 unfolding cellListed
-returns-2 c = λ memory file buffer.
-    c .with-cells .ensures memory file buffer
-    ∙ rw (c .before .before .before .if1 .left, c .before .with-cell .ensures, c .before .before .cell-of .ensures)
+returns-2 c = (
+  λ memory file buffer.
+      c .with-cells .ensures .0 memory file buffer
+      ∙ rw (c .before .before .before .if1 .left, c .before .with-cell .ensures, c .before .before .cell-of .ensures),
+  c .with-cells .ensures .1,
+)
 
 pub list-spec : {M : Type 1} → statement M
 list-spec =

@@ -1,6 +1,5 @@
 -- `replay::cells::with_cell` meets its contract. Assumes nothing.
 use borrow.Author.Tests.{ne-eqb}
-use borrow.Author.Needs.{needs}
 use Rattle.replay.proofs.cells.with_cell.Statement.{statement}
 use Rattle.replay.proofs.cells.with_cell.Tie as tie
 

@@ -15,7 +15,7 @@ bad-requires c κs = search needs
 
 returns : tie.Need-returns
 unfolding divisionDone
-returns c file = rw (lt-leb _ room (c .before .if1 .taken)) (c .bad .ensures _ file _)
+returns c file = rw (lt-leb _ room (c .before .if1 .taken)) (c .bad .ensures .0 _ file _)
 
 least-requires : tie.Need-least-requires
 least-requires c κs = search needs

@@ -15,7 +15,7 @@ returns : tie.Need-returns
 unfolding dumped
 returns c file =
     let start = c .before .before .before in
-    rw (lt-leb (start .args .start + start .args .count) arrayLength (omega arith)) (c .bad .ensures _ file _)
+    rw (lt-leb (start .args .start + start .args .count) arrayLength (omega arith)) (c .bad .ensures .0 _ file _)
 
 bad-requires-2 : tie.Need-bad-requires-2
 bad-requires-2 c κs = search needs
@@ -24,7 +24,7 @@ returns-2 : tie.Need-returns-2
 unfolding dumped
 returns-2 c file =
     let start = c .before .before .before .before in
-    rw (lt-leb (start .args .start + start .args .count) arrayLength (omega arith)) (c .bad2 .ensures _ file _)
+    rw (lt-leb (start .args .start + start .args .count) arrayLength (omega arith)) (c .bad2 .ensures .0 _ file _)
 
 add-to : tie.Need-add-to
 add-to c = search needs

@@ -50,7 +50,7 @@ returns-5 : tie.Need-returns-5
 unfolding due performed
 returns-5 c =
     let test = c .before .before in
-    rw (le-ltb 0 _ (test .before .if1 .left), c .before .match .keys3) (c .list .ensures _ _ _)
+    rw (le-ltb 0 _ (test .before .if1 .left), c .before .match .keys3) (c .list .ensures .0 _ _ _)
 
 returns-6 : tie.Need-returns-6
 unfolding due performed

@@ -20,7 +20,7 @@ unfolding handled
 returns c memory buffer =
     let test = c .before in
     let args = test .before .before .before .before .args in
-    rw (lt-ltb _ recordBytes (test .if1 .taken), c .bad .ensures memory (args .file .now) buffer)
+    rw (lt-ltb _ recordBytes (test .if1 .taken), c .bad .ensures .0 memory (args .file .now) buffer)
     (due-none (test .before .read .result) (stageOf memory (args .file .now) buffer (args .state)))
 
 same-length : tie.Need-same-length

@@ -1,6 +1,6 @@
 -- `workbook::cells::convert_cell` meets its contract. Assumes nothing.
 use borrow.Author.Needs.{needs}
-use Rattle.workbook.specs.Cells.{conversionOf}
+use Rattle.workbook.specs.Inner.Steps.{conversionOf}
 use Rattle.workbook.proofs.CellGrounds.{with-numbers}
 use Rattle.workbook.proofs.cells.convert_cell.Statement.{statement}
 use Rattle.workbook.proofs.cells.convert_cell.Tie as tie

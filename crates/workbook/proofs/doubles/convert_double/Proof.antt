@@ -6,7 +6,7 @@ use lib.Ieee.Bits.{ofBits-toBits}
 use borrow.Author.Needs.{needs}
 use Rattle.workbook.specs.declared.cells.Cell.the-variants.{Number}
 use Rattle.workbook.specs.Doubles.{isRefused}
-use Rattle.workbook.specs.Cells.{conversionOf}
+use Rattle.workbook.specs.Inner.Steps.{conversionOf}
 use Rattle.workbook.proofs.BitFields.{equal-to-itself, unequal-to-itself}
 use Rattle.workbook.proofs.doubles.convert_double.Statement.{statement}
 use Rattle.workbook.proofs.doubles.convert_double.Tie as tie

@@ -26,8 +26,8 @@ mul-shifted c = search needs
 shifted-requires-2 : tie.Need-shifted-requires-2
 shifted-requires-2 c κs = search needs
 
-add-t10 : tie.Need-add-t10
-add-t10 c =
+add-t11 : tie.Need-add-t11
+add-t11 c =
     let a = c .before .before .args in
     omega (arith, c .shifted2 .ensures, shr-le (2000 * a .digits) (a .places))
 
@@ -47,5 +47,5 @@ convert-fraction-spec =
     returns
     mul-shifted
     shifted-requires-2
-    add-t10
+    add-t11
     returns-2)

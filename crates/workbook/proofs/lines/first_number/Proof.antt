@@ -1,6 +1,5 @@
 -- `workbook::lines::first_number` meets its contract. Assumes nothing.
 use mathlib.Core.Path.{sym}
-use borrow.Author.Needs.{needs}
 use Rattle.apportion.proofs.Grounds.{refused-old}
 use Rattle.workbook.proofs.lines.first_number.Statement.{statement}
 use Rattle.workbook.proofs.lines.first_number.Tie as tie
