@@ -244,6 +244,10 @@ CALLS = (
      + GRAMS,
      "    the second double of the provision factor, 20000000, is above its "
      "limit" + GRAMS),
+    ((), LINE % ("-1..1e9", "1e7..inf", "0..1e7"), 15,
+     "    the first double of the quantity, -1, is below zero" + UNITS,
+     "    the second double of the operation factor, inf, is not finite"
+     + GRAMS),
     # Within a cell it comes before 16, and a cell before those behind it.
     ((), LINE % ("5..-1", "2..1", 1), 15,
      "    the second double of the quantity, -1, is below zero" + UNITS),

@@ -132,7 +132,13 @@ def forms(check):
             "\n   1 ", "\n   2 "), ""), "a stated separator", found)
     check(posted(rows.replace(",", "|").join(("sep=|\n", "")))[0] == 0,
           "another separator")
-    check(posted("a;b,c,d\n" + rows)[0] == 0, "most lines decide")
+    for text, column in (("a;b,c,d\n1,2,3", 2), ("a,b;c;d\n1;2;3\n4;5;6", 2),
+                         ("1\t2\t\n1\t2\t3", 2)):
+        status, output, _ = posted(text)
+        check(status in (0, 3) and "\n   %d      1 " % column in output,
+              "most lines decide", text, output)
+    # As they stand between `;`, and not between thousands.
+    check("     3_206        " in posted("3,206;1;1")[1], "a decimal comma")
 
 
 def headings(check):
@@ -194,6 +200,8 @@ def bad_rows(check):
          "between the two numbers of a span stand two points", cell),
         ("1,2,15 %", "column 3, provision factor: `15 %` is no number: a "
          "number stands without `%`", cell),
+        ("12.5 kg,3 g,4 g", "column 1, quantity: `12.5 kg` is no number: a "
+         "number stands without its unit", cell),
         ("=A1,=A2,=A3", "column 1, quantity: `=A1` is " + formula, cell),
         ("#DIV/0!,2,3", "column 1, quantity: `#DIV/0!` is an error of the "
          "spreadsheet, and no number", cell),
@@ -235,6 +243,11 @@ nor a span
     %s
 nothing is posted
 """ % (three, cell)), "two bad rows", posted("1,2,3\n4,5\n,,x\n"))
+    told = posted("1.5;2;3\n1,5;2;3\nx;2;3\n")[2]
+    check([line.split(":")[0] for line in told.splitlines()
+           if not line.startswith((" ", "note: "))]
+          == ["standard input, line 1", "standard input, line 3",
+              "nothing is posted"], "in the order of their lines", told)
     long_cell = "x" * 140_000
     check("line 2: it cannot be read as columns: field larger than field limit"
           in posted("1,2,3\n%s,1,1\n" % long_cell)[2], "a long cell")
