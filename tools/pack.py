@@ -154,6 +154,10 @@ def instead_of(name):
         return "a book's text has `%s` for it" % RECORD_OF_CALL[name]
     if name == "close":
         return CLOSING
+    if name == "line":
+        return ("that is a call, for `tools/quay play`; `tools/quay lines "
+                "--entries` prints rows of a workbook as lines of a book's "
+                "text")
     if name in PLAYED:
         return "that is a call, for `tools/quay play`"
     return EXPECTED_RECORD

@@ -5,10 +5,10 @@ calculation.
     python3 tools/checks/check_quay.py [SEED]
 
 It wants the programs that `rt check` builds. The examples, random books, the
-same with damage, and random lists of calls are given to each command; status,
-output and messages have to be the same, and no difference may be told. The
-seed makes other books and lists. Prints `N runs agree`, or the first
-difference with exit status 1.
+same with damage, random lists of calls and random rows of a workbook are given
+to each command; status, output and messages have to be the same, and no
+difference may be told. The seed makes other books, lists and rows. Prints
+`N runs agree`, or the first difference with exit status 1.
 """
 
 import os
@@ -19,16 +19,20 @@ import sys
 
 sys.path.insert(0, os.path.dirname(os.path.dirname(os.path.abspath(__file__))))
 
-from cases.random_cases import by_bits, one_of
+from calculation.book import FACTORS, QUANTITIES
+from cases.random_cases import any_cell, by_bits, one_of, random_cell
 from cases.random_files import random_parts
 from checks.quay_runs import (
-    CLASS, DOCUMENT, FERRY, ROOT, VOYAGE, calculated, run, stored, text_of)
+    CLASS, DOCUMENT, FERRY, ROOT, VOYAGE, WHARF, WHARF_SHEET, calculated, run,
+    stored, text_of)
+from command.cells import cell_text
 from command.main import BAD_TEXT, CANNOT, DIFFERENT, DONE, REFUSED
 from command.programs import PROVED
 
 SEED = 1
 BOOKS = 120
 LISTS = 60
+FILES_OF_ROWS = 60
 QUAY = os.path.join(ROOT, "tools", "quay")
 
 SHEETS = (("sheet",), ("sheet", "--tonnes"), ("sheet", "--csv"),
@@ -57,6 +61,26 @@ def books(rng):
             yield "name 1 First\n%s\nname 10_000 Last" % text_of(*records)
 
 
+def random_cells(rng):
+    """The cells of a line as they are written: most in range, or any."""
+    wild = rng.randrange(3) == 0
+    return [cell_text(any_cell(rng) if wild else random_cell(rng, numbers, 20))
+            for numbers in (QUANTITIES, FACTORS, FACTORS)]
+
+
+def rows(rng):
+    """Rows of a workbook; one that is none may be among them."""
+    for number in range(FILES_OF_ROWS):
+        separator = one_of(rng, (",", ";", "\t"))
+        lines = [separator.join(random_cells(rng)) for _ in range(
+            70 if number % 6 == 0 else 4)]
+        if number % 4 == 0:
+            lines.insert(0, separator.join(("quantity", "operation", "c")))
+        if number % 10 == 9:
+            lines.append(one_of(rng, ("1", "1,2,3;4", "x,1,2")))
+        yield "\n".join(lines)
+
+
 def random_line(rng):
     category = 1 + rng.randrange(3)
     chain = one_of(rng, (1, 2, 3))
@@ -65,6 +89,8 @@ def random_line(rng):
         "post category %d group %d quantity %d operation %d provision %d" % (
             category, rng.randrange(3), by_bits(rng, 41), by_bits(rng, 34),
             by_bits(rng, 34)),
+        "line category %d group %d %s %s %s" % (
+            category, rng.randrange(3), *random_cells(rng)),
         "enrol category %d chain %d code %d amount %d distance %d%s" % (
             category, chain, one_of(rng, (0, 1, 2, 100, 250)),
             by_bits(rng, 20), by_bits(rng, 26),
@@ -78,7 +104,7 @@ def random_line(rng):
         "intensity %d %d" % (category, one_of(rng, (0, 1, 2, 100))),
         "show", "sheet",
         "load " + one_of(rng, (DOCUMENT, VOYAGE, FERRY, "# none")),
-    )[:10 + (rng.randrange(20) == 0)])
+    )[:11 + (rng.randrange(20) == 0)])
 
 
 def lists(rng):
@@ -104,6 +130,14 @@ def runs(seed):
             yield ("explain", "-", str(chain)), text
     for text in lists(rng):
         yield ("play",), text
+    for place in (("1", "all"), ("1", "9"), ("2", "all")):
+        yield ("lines", WHARF, WHARF_SHEET, *place), ""
+        yield ("lines", "--entries", CLASS, WHARF_SHEET, *place), ""
+    for text in rows(rng):
+        for book in (WHARF, VOYAGE, CLASS):
+            yield ("lines", book, "-", str(1 + rng.randrange(4)),
+                   str(rng.randrange(3))), text
+        yield ("lines", "--entries", WHARF, "-", "1", "all"), text
 
 
 def compare(words, text):
@@ -129,6 +163,8 @@ def as_a_command():
     for words, status, output in (
         (("sheet", DOCUMENT), DONE, stored("crates", "quaymeter", "stdout")),
         (("play", CLASS), REFUSED, stored("examples", "class-answers.txt")),
+        (("lines", WHARF, WHARF_SHEET, "1", "all"), REFUSED,
+         stored("examples", "wharf-answers.txt")),
         (("sheet", QUAY), BAD_TEXT, ""),
         (("sheet", "none.txt"), CANNOT, ""),
         (("explain", DOCUMENT, "9"), CANNOT, ""),
@@ -137,7 +173,9 @@ def as_a_command():
                               stderr=subprocess.PIPE)
         expect((done.returncode, done.stdout.decode()) == (status, output),
                "quay " + " ".join(words), done)
-        expect((done.stderr == b"") == (status in (DONE, REFUSED)),
+        # A heading of rows is told of.
+        expect((done.stderr == b"") == (status in (DONE, REFUSED)
+                                        and WHARF_SHEET not in words),
                "its messages", done)
     for command, lines, told in (
         ("%s play %s | head -1", 1, b""),

@@ -19,6 +19,8 @@ VOYAGE = os.path.join(EXAMPLES, "voyage.txt")
 CLASS = os.path.join(EXAMPLES, "class.txt")
 BOARD = os.path.join(EXAMPLES, "board.txt")
 FERRY = os.path.join(EXAMPLES, "ferry.txt")
+WHARF = os.path.join(EXAMPLES, "wharf.txt")
+WHARF_SHEET = os.path.join(EXAMPLES, "wharf-sheet.csv")
 
 
 def stored(*names):

@@ -7,9 +7,9 @@ import pack
 from calculation import loading, player
 from cases import book_cases
 from cases.file_writer import table_records
+from cases.line_writer import single, span
 from checks.quay_runs import CALCULATED, ROOT, tells_difference, text_of
 from command import playing, refusals, sheets
-from command.calls import CALLS as CALLS_IN_WORDS
 
 STORED = os.path.join(ROOT, "crates", "replay", "stdin")
 
@@ -21,6 +21,9 @@ POSTED = POST % ("all", 1000, 10, 20)
 ENROLLED = ENROL % (7, "ambient", 100, 50)
 SEATS = ENROL % (7, "lowest", 40, 50)
 OTHER_SEATS = SEATS.replace("category 1", "category 2")
+LINE = "line category 1 group all %s %s %s"
+UNITS = ": expected 0 to 1_000_000_000 units\n"
+GRAMS = ": expected 0 to 10_000_000 g CO2e per unit\n"
 
 # Calls that are accepted, then one that is refused; its number, and what is
 # said of it, with a line end where nothing is said behind it.
@@ -216,6 +219,64 @@ CALLS = (
       ENROL % (7, 0, 1, 1), "close 1"), "intensity 1 0", 10,
      "an intensity above 10^15 mg: operation would be "
      "1_000_000_000_000_000_000_000"),
+    # 15 of a line's cells, which comes before all of a post's
+    ((), LINE % ("-", 1, 1), 15, "    the quantity is blank" + UNITS),
+    ((), LINE % (1, "-", 1), 15, "    the operation factor is blank" + GRAMS),
+    ((), LINE % (1, 1, "blank"), 15,
+     "    the provision factor is blank" + GRAMS),
+    ((), LINE % ("inf", "-inf", "nan"), 15,
+     "    the quantity, inf, is not finite" + UNITS,
+     "    the operation factor, -inf, is not finite" + GRAMS,
+     "    the provision factor, nan, is not finite" + GRAMS),
+    ((), LINE % ("1e309", 1, 1), 15,
+     "    the quantity, inf, is not finite" + UNITS),
+    ((), LINE % ("-5e-324", 1, "-12.5"), 15,
+     "    the quantity, -5e-324, is below zero" + UNITS,
+     "    the provision factor, -12.5, is below zero" + GRAMS),
+    ((), LINE % ("1000000000.0000001", "10000000.000000002", "1e7"), 15,
+     "    the quantity, 1000000000.0000001, is above its limit" + UNITS,
+     "    the operation factor, 10000000.000000002, is above its limit"
+     + GRAMS),
+    ((), LINE % ("3..nan", "-1..-2", "0..2e7"), 15,
+     "    the second double of the quantity, nan, is not finite" + UNITS,
+     "    the first double of the operation factor, -1, is below zero" + GRAMS,
+     "    the second double of the operation factor, -2, is below zero"
+     + GRAMS,
+     "    the second double of the provision factor, 20000000, is above its "
+     "limit" + GRAMS),
+    ((), LINE % ("-1..1e9", "1e7..inf", "0..1e7"), 15,
+     "    the first double of the quantity, -1, is below zero" + UNITS,
+     "    the second double of the operation factor, inf, is not finite"
+     + GRAMS),
+    # Within a cell it comes before 16, and a cell before those behind it.
+    ((), LINE % ("5..-1", "2..1", 1), 15,
+     "    the second double of the quantity, -1, is below zero" + UNITS),
+    # 16
+    ((), LINE % ("3.4..3.1", 1, 1), 16,
+     "    the second double of the quantity, 3.1, is below its first, 3.4: a "
+     "span goes from its smaller number to its larger one, as 3.1..3.4 does"
+     "\n"),
+    ((), LINE % (1, "2..1", "5e-324..0"), 16,
+     "    the second double of the operation factor, 1, is below its first, 2",
+     "    the second double of the provision factor, 0, is below its first, "
+     "5e-324"),
+    ((), LINE % ("2..1", "-", "nan"), 16,
+     "    the second double of the quantity, 1, is below its first, 2"),
+    # What a post is refused with, of what the cells become.
+    ((), LINE % (1, 1, 1), 2, "there is no category 1"),
+    (("open 1",), LINE.replace("all", "3") % (1, 1, 1), 3,
+     "there is no group 3"),
+    (("open 1", ENROLLED, "close 1"), LINE % (1, 1, 1), 4,
+     "category 1 is closed: its emissions are handed out"),
+    (("open 2",), LINE.replace("all", "2") % (1, 1, 1), 6,
+     "emissions of frozen freight in a category of passengers"),
+    (("open 1",) + (LINE % (1, "1..2", 0),) * 64, LINE % (0, 0, 0), 8,
+     "no room for another entry: a book has room for 64 entries, struck ones "
+     "too\n"),
+    (("open 1", LINE % (0.0625, 1, 0)), LINE % ("1e9", "1e6..1e6", 1000), 10,
+     "more than 10^18 µg in operation: the unstruck entries and the quotes "
+     "would add up to 1_000_000_000_000_000_063_000 µg; a quantity is in units, "
+     "a factor in g CO2e per unit\n"),
 )
 
 
@@ -234,8 +295,7 @@ def each_call(check):
                   "a reason", line, words)
     given = {(call.split()[0], number) for _, call, number, *_ in CALLS}
     possible = {(name, number) for name, numbers in book_cases.ANSWERS.items()
-                for number in numbers
-                if number > 1 and name in CALLS_IN_WORDS}
+                for number in numbers if number > 1}
     check(given <= possible and {number for _, number in given}
           == {number for _, number in possible}, "every number", given)
 
@@ -346,8 +406,7 @@ def at_its_line(check):
 
 def every_stored_refusal(check):
     """Every refused call and every stopped file of the stored cases has a
-    reason, and every number that a call can give is among them. Calls that
-    quay does not have are passed over."""
+    reason, and every number that a call can give is among them."""
     with open(STORED, "rb") as file:
         data = file.read()
     played = player.Player()
@@ -360,8 +419,7 @@ def every_stored_refusal(check):
         if coming is not None:
             if numbers is not None:
                 check_load(check, coming.data(), numbers)
-        elif (player.CALLS.get(operation) in CALLS_IN_WORDS and numbers
-              and numbers[0] > 1):
+        elif operation in player.CALLS and numbers and numbers[0] > 1:
             name = player.CALLS[operation]
             arguments = player.used_arguments(
                 name, player.with_cells(operation, arguments, cells))
@@ -371,8 +429,7 @@ def every_stored_refusal(check):
             check(len(lines) > 1, "a reason", name, arguments, lines)
             found.add((name, numbers[0]))
     possible = {(name, number) for name, numbers in book_cases.ANSWERS.items()
-                for number in numbers
-                if number > 1 and name in CALLS_IN_WORDS}
+                for number in numbers if number > 1}
     check(found == possible, "every number of every call",
           possible ^ found)
 
@@ -402,6 +459,13 @@ def differences(check):
         ("enrol", (1, 7, 0, 1, 1, 0), (7, 14)),
         ("enrol", (1, 7, 0, 1, 1, 78), (14,)),
         ("enrol", (1, 7, 100, 1, 1, 79), (7, 14)),
+        ("line", (1, 0, *[single(1.5)] * 3), (2, 3, 4, 6, 10, 15, 16)),
+        ("line", (1, 0, span(0.0, 1e7), span(3.0, 3.0), span(0.0, -0.0)),
+         (15, 16)),
+        # A cell is refused, so nothing of the post is looked at.
+        ("line", (9, 9, single(1.5), (), single(1.5)), (2, 3, 16)),
+        ("line", (9, 9, single(1.5), span(2.0, 1.0), ()), (2, 3)),
+        ("post", (1, 0, 1, 1, 1), (15, 16)),
     ):
         for number in numbers:
             tells_difference(

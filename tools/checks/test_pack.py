@@ -412,9 +412,13 @@ def calls_in_a_text():
                          ("enrol", "element")):
         bad(word + " 1", "no record is called `%s`" % word,
             "has `%s` for it" % record)
-    for word in ("strike", "statement", "intensity", "fresh", "load", "show"):
+    for word in ("strike", "statement", "intensity", "fresh", "load", "show",
+                 "line"):
         bad(word + " 1", "no record is called `%s`" % word,
             "`tools/quay play`")
+    bad("line category 1 group all 1 2 3", "no record is called `line`",
+        "`tools/quay lines --entries` prints rows of a workbook as lines of a "
+        "book's text")
 
 
 def widths():

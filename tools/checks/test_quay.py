@@ -19,11 +19,12 @@ sys.path.insert(0, os.path.dirname(os.path.dirname(os.path.abspath(__file__))))
 import pack
 from calculation import book
 from calculation.sheet import sheet
-from checks import explain_checks, refusal_checks
+from cases.line_writer import bits
+from checks import explain_checks, refusal_checks, row_checks
 from checks.checking import Checks
 from checks.quay_runs import (
-    BOARD, CALCULATED, CLASS, DOCUMENT, EXAMPLES, FERRY, ROOT, VOYAGE,
-    calculated, run, stored, tells_difference)
+    BOARD, CALCULATED, CLASS, DOCUMENT, EXAMPLES, FERRY, ROOT, VOYAGE, WHARF,
+    WHARF_SHEET, calculated, run, stored, tells_difference)
 from command import (
     amounts, explaining, main, playing, programs, refusals, sheets)
 from command.fields import Wrong
@@ -438,7 +439,7 @@ def class_list():
     check(output == stored("examples", "class-answers.txt"),
           "its stored answers")
     numbers = set(re.findall("^refused ([0-9]+):", output, re.M))
-    check(numbers == {*"2345679", "14"}, "its refusals", numbers)
+    check(numbers == {*"2345679", "14", "15", "16"}, "its refusals", numbers)
 
 
 def answers(*lines):
@@ -455,6 +456,7 @@ def answered(*lines_and_answer):
 
 POST = "post category 1 group 1 quantity 1_000 operation 3 provision 2"
 ENROL = "enrol category 1 chain 7 code 1 amount 10 distance 20"
+LINE = "line category 1 group chilled "
 SEATS = ENROL.replace("code 1", "code lowest")
 QUOTE = ("quote adjust chain 7 mass 1_000 distance 5_000 operation 6 "
          "provision 1")
@@ -468,6 +470,34 @@ def accepted_calls():
     answered("open 1", POST, "entry 1: category 1, benefits chilled freight; "
              "operation 3_000 µg (0.000000003 t), provision 2_000 µg "
              "(0.000000002 t)")
+    for cells, told in (
+        ("quantity 12.5 operation 3.1..3.4 provision 0.56",
+         "operation 40_625_000 µg (0.000040625 t), provision 7_000_000 µg "
+         "(0.000007 t)\n    quantity 12.5 units: 12_500 thousandths\n    "
+         "operation factor 3.1..3.4 g CO2e per unit: its ends are 3_100 and "
+         "3_400 mg, their mean is 3_250 mg\n    provision factor 0.56 g CO2e "
+         "per unit: 560 mg"),
+        # Halves up, of a number, of the ends of a span and of their mean.
+        ("0.0625 0.0625..0.1875 0.001..0.002",
+         "operation 7_938 µg (0.000000007938 t), provision 126 µg "
+         "(0.000000000126 t)\n    quantity 0.0625 units: 63 thousandths\n    "
+         "operation factor 0.0625..0.1875 g CO2e per unit: its ends are 63 and "
+         "188 mg, their mean is 126 mg (125.5, halves up)\n    provision factor "
+         "0.001..0.002 g CO2e per unit: its ends are 1 and 2 mg, their mean is "
+         "2 mg (1.5, halves up)"),
+        # The double decides, and not what is written for it.
+        ("provision -0.0 quantity 1_000 operation 1.0005",
+         "operation 1_000_000_000 µg (0.001 t), provision 0 µg (0 t)\n    "
+         "quantity 1000 units: 1_000_000 thousandths\n    operation factor "
+         "1.0005 g CO2e per unit: 1_000 mg\n        as a double 1.0005 is "
+         "1.000499999999999944932937..., so it becomes 1_000 and not 1_001\n    "
+         "provision factor -0 g CO2e per unit: 0 mg"),
+    ):
+        answered("open 1", LINE + cells, "entry 1: category 1, benefits chilled "
+                 "freight; " + told)
+    answered("open 1", LINE + ".5 5. 1E+1", "strike 1", "entry 1: category 1, "
+             "benefits chilled freight, struck and not counted; operation "
+             "2_500_000 µg (0.0000025 t), provision 5_000_000 µg (0.000005 t)")
     answered("open 1", POST, "strike entry 1", "entry 1: category 1, benefits "
              "chilled freight, struck and not counted; operation 3_000 µg "
              "(0.000000003 t), provision 2_000 µg (0.000000002 t)")
@@ -584,9 +614,10 @@ def saves():
         for line, told in (
             (" open 3 # both", None), ("name 7 Mills", None),
             (SEATS + " kg 78", None), (SEATS, None),
+            (LINE + "1 2..3 0 # a row", None), (LINE + "1 - 3", None),
             ("close 2", None), ("show", None), ("statement 7", None),
             ("save '%s' # here" % path,
-             "saved 4 lines: `quay play` plays it again, from this folder"),
+             "saved 5 lines: `quay play` plays it again, from this folder"),
             ("save " + path, "not saved: %s is there already, and no file is "
              "written over; choose another name" % path),
             ("save %s/none/x" % folder, "not saved as %s/none/x: No such file "
@@ -596,8 +627,9 @@ def saves():
             found = session.answer(playing.request_of(line))
             check(told is None or found == [told], "saved", line, found)
         with open(path, encoding="utf-8") as file:
-            check(file.read() == "open 3 # both\nname 7 Mills\n%s kg 78\n"
-                  "statement 7\n" % SEATS, "what is saved")
+            check(file.read() == "open 3 # both\nname 7 Mills\n%s kg 78\n%s1 "
+                  "2..3 0 # a row\nstatement 7\n" % (SEATS, LINE),
+                  "what is saved")
         check(run("play", path)[0] == 0, "it is played")
         again = ("save " + path).encode()
         check(run("play", text=again)[0] == 2, "not saved again")
@@ -687,7 +719,7 @@ def bad_line(line, what, *expected):
 
 
 def bad_lines():
-    bad_line("zzz", "no call is `zzz`", "begins with open, post, strike")
+    bad_line("zzz", "no call is `zzz`", "begins with open, post, line, strike")
     bad_line("enroll category 1", "did you mean `enrol`?")
     for record, call in (("category", "open freight"),
                          ("entry", "post category 1 group all"),
@@ -740,9 +772,85 @@ def bad_lines():
         bad_line(word + " 1", "no call is `%s`" % word, "nothing is taken "
                  "back; `strike` strikes an entry, once and for good, and "
                  "`fresh` or `load` begins again")
+    bad_line("lines 1", "no call is `lines`", "`tools/quay lines BOOK ROWS.csv "
+             "CATEGORY GROUP`; one of them is a `line`")
     bad_line("name 7", "a chain's number or its name is missing")
     bad_line("help me", "no help for `me`", "one of open, post")
     bad_line("help post open", "no help for `post open`")
+
+
+def bad_cells():
+    """Lines whose cells are none."""
+    example = ("a call is `line category 1 group all quantity 12.5 operation "
+               "3.1..3.4 provision 0.56`")
+    expected = ("expected a number such as 12.5, a span such as 3.1..3.4, or "
+                "`-` for a blank cell")
+    two_points = "between the two numbers of a span stand two points"
+    groups = ("`_` stands between groups of three digits")
+    for cell, what in (
+        ("3..4..5", "no span: it has two numbers"),
+        ("3...5", "no span: between its two numbers stand two points"),
+        ("3\u20265", "no span: between its two numbers stand two points"),
+        ("3.1-3.4", "no number: " + two_points),
+        ("3.1\u20133.4", "no number: " + two_points),
+        ("3:4", "no number: " + two_points),
+        ("3..", "no span: a number stands on each side of its two points"),
+        ("..4", "no span: a number stands on each side of its two points"),
+        ("..", "no span: a number stands on each side of its two points"),
+        ("1,5", "ambiguous: a comma may be meant before decimals or between "
+                "thousands; decimals stand behind a point"),
+        ("1,250", "ambiguous: a comma may be meant"),
+        ("1..1,5", "ambiguous: a comma may be meant"),
+        ("12.5kg", "no number: a number stands without its unit"),
+        ("12.5g/kWh", "no number: a number stands without its unit"),
+        ("15%", "no number: a number stands without `%`"),
+        ("12'000", "no number: between the groups of a long number stands `_` "
+                   "or nothing"),
+        ("1_5", "no number as it stands: " + groups),
+        ("1_5.5", "no number as it stands: " + groups),
+        ("1.2.3", "neither a number nor a span"),
+        ("0x10", "neither a number nor a span"),
+        ("1e", "neither a number nor a span"),
+        ("\u0661", "neither a number nor a span"),
+    ):
+        for words, field, unit in (
+            ("%s 1 1", "quantity", "units (kg, kWh or other), 0 to "
+                                   "1_000_000_000"),
+            ("1 %s 1", "operation", "g CO2e per unit, 0 to 10_000_000"),
+            ("quantity 1 operation 1 provision %s", "provision",
+             "g CO2e per unit, 0 to 10_000_000"),
+        ):
+            bad_line(LINE + words % cell, "`%s` after `%s` is %s" % (
+                cell, field, what), "%s; `%s` is in %s; %s" % (
+                    expected, field, unit, example))
+    for words, what in (
+        ("1 2", "missing: provision"), ("", "missing: quantity, operation and "
+                                            "provision"),
+        ("1 2 3 4", "`4` has no word before it that says what it is"),
+        ("quantity 1 2 3", "`2` has no word before it that says what it is"),
+        ("1 2 provision 3", "`1` has no word before it that says what it is"),
+        ("quantity 12 500 operation 3 provision 4", "`500` has no word before "
+         "it that says what it is; between the groups of a long number stands "
+         "`_` and no space"),
+        ("1 kg 2 3", "`kg` is no word here: a number stands without its unit; "
+                     "`quantity` is in units"),
+        ("quantty 1 2 3", "`quantty` is no word of `line`; did you mean "
+                          "`quantity`?"),
+    ):
+        bad_line(LINE + words, what, "expected line with category, group, "
+                 "quantity, operation and provision; " + example)
+    bad_line("line 1 all 1 2 3", "`all` has no word before it that says what it "
+             "is; did you mean `group all`?")
+    bad_line(LINE + "quantity operation 1 provision 2", "no number after "
+             "`quantity`", expected)
+    for text, cell in (("-", ()), ("blank", ()), ("\u22121", (-1.0,)),
+                       ("+2", (2.0,)), ("1_000.5", (1000.5,)), (".5", (0.5,)),
+                       ("5.", (5.0,)), ("1e-3..1E3", (1e-3, 1e3)),
+                       ("-.5..INF", (-0.5, float("inf"))),
+                       ("0.1..0.3", (0.1, 0.3))):
+        found = playing.request_of(LINE + "quantity %s operation 1 provision 1"
+                                   % text).given[2]
+        check(found == tuple(map(bits, cell)), "a cell", text, found)
 
 
 def bad_files():
@@ -778,6 +886,7 @@ def bad_files():
 HELP = """\
 open       opens a category: freight, passengers, both or hub
 post       posts an entry of emissions to a category
+line       posts a line from the Wharf Sheet, the old workbook, to a category
 strike     strikes an entry, by its number
 enrol      enrols freight or passengers of a chain in a category
 quote      quotes a leg of another carrier, in no category
@@ -797,6 +906,19 @@ quit       ends
 how a share came about, `quay explain` shows of a book's text, outside of this
 """
 HELP_ON = {
+    "line": """\
+line: posts a line from the Wharf Sheet, the old workbook, to a category
+    line category 1 group all quantity 12.5 operation 3.1..3.4 provision 0.56
+    a cell is blank (`-`), a number, or a span with two points; it becomes \
+whole thousandths, the nearest to its double, halves up, and a span the mean \
+of its two; the cells may stand without their words, in this order
+    expected line with category, group, quantity, operation and provision
+    category is a number, from 1 on in their order
+    group is a number or a word: all (0), chilled (1) or frozen (2)
+    quantity is in units (kg, kWh or other), 0 to 1_000_000_000
+    operation is in g CO2e per unit, 0 to 10_000_000
+    provision is in g CO2e per unit, 0 to 10_000_000
+""",
     "strike": """\
 strike: strikes an entry, by its number
     strike 2
@@ -914,7 +1036,7 @@ def lists():
     check((status, output) == (1, "") and told == """\
 line 2: no call is `opne`; did you mean `open`?
     opne 2
-    expected a line that begins with open, post, strike, enrol, quote, \
+    expected a line that begins with open, post, line, strike, enrol, quote, \
 close, statement, intensity, fresh, load, show, sheet, name, save, help, quit
 line 3: missing: category
     close
@@ -1142,6 +1264,13 @@ def differences_of_calls():
         (("open 1",), b"\n0 1\n", b"\n0\n", "`0` to `open 1`, and `0 1`"),
         (("open 1",), b"\n0 1\n", b"\n\n", "`` to `open 1`, and `0 1`"),
         (("open 9",), b"\n3 0\n", b"\n23 0\n", "`23 0` to `open 9`, and `3 0`"),
+        # A program that takes a blank cell for 0, and one that rounds a half
+        # down.
+        (("open 1", LINE + "1 - 2..3"), b"\n15 0\n", b"\n0 1\n",
+         "`0 1` to `line 1 1 1 - 2..3`, and `15 0` is reckoned here"),
+        (("open 1", LINE + "1 0.0625 0"), b" 1 1 63000 0 ", b" 1 1 62000 0 ",
+         "after `line 1 1 1 0.0625 0` replay shows 62000 in the book's entry 1, "
+         "operation, and 63000 is reckoned here"),
         # What a program without weighed passengers answers.
         (("open 2", SEATS, SEATS + " kg 78"), b"\n14 0\n", b"\n0 2\n",
          "`0 2` to `enrol 1 7 100 10 20 78`, and `14 0` is reckoned here"),
@@ -1194,6 +1323,8 @@ def outputs():
         (BrokenPipeError(), ["sheet", "--csv", DOCUMENT], 0, ""),
         (BrokenPipeError(), ["explain", DOCUMENT, "7"], 0, ""),
         (BrokenPipeError(), refused, 3, ""),
+        (BrokenPipeError(), ["lines", WHARF, WHARF_SHEET, "1", "2"], 3,
+         row_checks.NOTE),
         (OSError(28, "No space left on device"), ["sheet", DOCUMENT], 2,
          "the output cannot be written: No space left on device\n"),
     ):
@@ -1232,7 +1363,8 @@ def help_texts():
     check((status, told) == (0, "") and "quay play" in output
           and "10^12 µg are 1 t" in output, "help")
     for phrase in ("the sheet of a book", "calls and their answers",
-                   "how a chain's shares came about"):
+                   "how a chain's shares came about",
+                   "rows of an old workbook, posted"):
         check(phrase in output, "help", phrase)
     book_path = "a book's text; - for standard input"
     for command, *phrases in (
@@ -1245,10 +1377,19 @@ def help_texts():
          "prompt", "a refused call changes nothing and can be tried again",
          "enrol category 2 chain 9 code lowest amount 40 distance 300_000 kg "
          "78",
+         "line category 1 group all quantity 12.5 operation 3.1..3.4 provision "
+         "0.56",
          "a list of calls; without it they are typed"),
         ("explain", "Shows how a chain's shares came about, element by element",
          "Each result is compared with that of the proved program",
          book_path, "a chain's number, or its name in the text"),
+        ("lines", "Posts the rows of an old workbook (the Wharf Sheet) to a "
+         "category of a book, for a group",
+         "usage: quay lines [-h] [--entries] BOOK.txt ROWS.csv CATEGORY GROUP",
+         "a book's text, or a list of calls; - for standard input",
+         "the rows of the workbook; - for standard input",
+         "where they are posted, as in `1 all`",
+         "the rows as lines for the book"),
     ):
         status, output, told = run(command, "--help")
         check((status, told) == (0, ""), "help", command)
@@ -1257,7 +1398,8 @@ def help_texts():
                        "cannot be done", "3 the ledger refuses"):
             check(phrase in output, "help", command, phrase)
         # What is not understood is told by the command that it was meant for.
-        words = (command, DOCUMENT, "7")[:3 if command == "explain" else 2]
+        words = (command, DOCUMENT, "7", "1", "1")[
+            :{"explain": 3, "lines": 5}.get(command, 2)]
         status, output, told = run(*words, "--tons")
         check((status, output) == (2, "") and told.startswith(
             "usage: quay %s " % command) and told.endswith(
@@ -1275,16 +1417,23 @@ def documents():
     check({int(number): meaning for number, meaning in table.items()}
           == refusals.MEANINGS, "README's refusals", table)
     for lines, number in ((("load " + DOCUMENT, "close 1"), 4),
-                          (("open freight", "intensity 1 ambient"), 5)):
+                          (("open freight", "intensity 1 ambient"), 5),
+                          (("line category 1 group all 12.5 - 0",), 15),
+                          (("line category 1 group all 12.5 3.4..3.1 0",),
+                           16)):
+        check("`%s`" % lines[-1] in stored("README.md"), "README's calls",
+              lines)
         check(answers(*lines)[-1][0].startswith("refused %d: " % number),
               "README's calls", lines)
-    lines = re.findall("^    ((?:%s|name) .*)" % "|".join(pack.RECORDS),
-                       stored("README.md"), re.M)
+    lines = re.findall("^    ((?:%s|name) (?![0-9]+:).*)" % "|".join(
+        pack.RECORDS), stored("README.md"), re.M)
     check(len(lines) > 5 and not pack.Text("\n".join(lines)).problems
           and any(" kg " in line for line in lines), "README's lines", lines)
     text = stored("examples", "document.txt").replace("chain 4 c", "chian 4 c")
+    line = playing.CALLS["line"].example
     for page, output in (
         ("README.md", DOCUMENT_TABLE), ("README.md", REFUSED_TOLD),
+        ("README.md", run("play", text=("open freight\n" + line).encode())[1]),
         (os.path.join("docs", "BOOKS.md"),
          run("sheet", "-", text=text.encode())[2]),
     ):
@@ -1315,6 +1464,7 @@ loads()
 places_of_books()
 told_of_loads()
 bad_lines()
+bad_cells()
 bad_files()
 helps()
 lists()
@@ -1331,4 +1481,5 @@ help_texts()
 documents()
 refusal_checks.run(check)
 explain_checks.run(check)
+row_checks.run_all(check)
 check.end()

@@ -2,13 +2,15 @@
 
 from collections import namedtuple
 
+from command.cells import FIELDS as CELL_FIELDS
 from command.fields import (
     CATEGORY, CHAIN, Wrong, given_numbers, meant, needed, record_numbers, shown)
 from pack import RECORD_OF_CALL, RECORDS
 
 # A call: its fields in the order of its arguments, the fields that may stand
-# without their words, and an example.
-Form = namedtuple("Form", "fields bare example")
+# without their words, an example, and whether these fields stand so together
+# or not at all.
+Form = namedtuple("Form", "fields bare example together", defaults=(False,))
 
 
 def fields_of(record, *words):
@@ -23,6 +25,11 @@ CALLS = {
         RECORDS["entry"].fields, (),
         "post category 1 group all quantity 12_000_000 operation 3_220_000 "
         "provision 560_000"),
+    "line": Form(
+        (*fields_of("entry", "category", "group"), *CELL_FIELDS),
+        tuple(field.word for field in CELL_FIELDS),
+        "line category 1 group all quantity 12.5 operation 3.1..3.4 provision "
+        "0.56", together=True),
     "strike": Form((needed("entry"),), ("entry",), "strike 2"),
     "enrol": Form(
         fields_of("element", "category", "chain", "code", "amount",
@@ -57,6 +64,8 @@ OTHERS = {
 ELSEWHERE = {
     "explain": "it is a command of its own, for a book's text: `tools/quay "
                "explain BOOK.txt CHAIN`",
+    "lines": "it is a command of its own, for rows of a workbook: `tools/quay "
+             "lines BOOK ROWS.csv CATEGORY GROUP`; one of them is a `line`",
     "reopen": "a closed category stays closed; begin again with `fresh` or "
               "`load`, and close it later",
     **dict.fromkeys(
@@ -69,8 +78,10 @@ ELSEWHERE = {
 def call_of(name, words):
     """The arguments of a call."""
     form = CALLS[name]
+    in_words = any(word.lower() in form.bare for word in words)
     try:
-        given = given_numbers(name, form.fields, words, form.bare)
+        given = given_numbers(name, form.fields, words,
+                              () if form.together and in_words else form.bare)
         return record_numbers(name, form.fields, given)
     except Wrong as wrong:
         what, expected = wrong.args

@@ -11,9 +11,15 @@ MOST_SIGNS = 120  # of a line or a word that are shown
 
 # A field: its word, None where no word sets it; what it is when it is left
 # out, None where it must be there; what its word stands for without a number,
-# None where one must follow; what its number is, "" where that is clear; and
-# whether it is offered to the reader.
-Field = namedtuple("Field", "word left_out alone what offered")
+# None where one must follow; what its number is, "" where that is clear;
+# whether it is offered to the reader; and how it is read, None for a whole
+# number.
+Field = namedtuple("Field", "word left_out alone what offered reading",
+                   defaults=(None,))
+
+# How a field is read that is no whole number: from its text to its value,
+# whether a text may be meant for one, and what is expected.
+Reading = namedtuple("Reading", "value is_like expected")
 
 
 def needed(word, what=""):
@@ -26,6 +32,11 @@ def flag(word, what="", offered=True):
 
 def optional(word, what=""):
     return Field(word, 0, None, what, True)
+
+
+def read_by(reading, word, what):
+    """A field that must be there and is no whole number."""
+    return Field(word, None, None, what, True, reading)
 
 
 def must_be_0(word):
@@ -152,7 +163,8 @@ def is_like_number(text):
 def expected_number(field):
     """What was expected behind the word of a field."""
     words = VALUES.get(field.word)
-    expected = "expected " + numbered(words) if words else EXPECTED_NUMBER
+    expected = ("expected " + numbered(words) if words else
+                field.reading.expected if field.reading else EXPECTED_NUMBER)
     return expected + in_words(field)
 
 
@@ -168,6 +180,13 @@ def numbered(words):
 
 def number_of(text, field, bits=64):
     """The number that is written behind the word of a field."""
+    if field.reading:
+        try:
+            return field.reading.value(text)
+        except Wrong as wrong:
+            raise Wrong("`%s` after `%s` is %s" % (
+                shown(text), field.word, wrong.args[0]),
+                expected_number(field))
     word = VALUES.get(field.word, {}).get(text.lower())
     if word is not None:
         return word
@@ -258,7 +277,8 @@ def given_numbers(name, fields, words, bare=(), bits_of=lambda field: 64):
         if field is None:
             field = next((known[other] for other in bare
                           if other not in given), None)
-            if field is None:
+            if field is None or (field.reading
+                                 and not field.reading.is_like(word)):
                 raise Wrong(why_no_field(name, word, before, words, known,
                                          given),
                             expected_fields(name, fields))

@@ -3,9 +3,13 @@ for each answer, and its dump shows the words that they leave. Each answer and
 each word is compared with the separate calculation's.
 """
 
+from collections import namedtuple
+
 from calculation import calls, loading, player
 from calculation.book import LENGTH, LISTINGS, Book, size
 from cases.file_writer import load_records
+from cases.line_writer import line_records
+from command.cells import cell_text
 from command.fields import shown
 from command.programs import Differs
 
@@ -19,6 +23,23 @@ def call_record(operation, arguments=()):
 
 
 EXAMINED = call_record(player.DUMP, (0, LENGTH))
+
+# Something that answers one line: what it is called, its records, and what
+# reckons its answer and the words that it leaves.
+Item = namedtuple("Item", "told records reckon")
+
+
+def call_item(name, arguments):
+    """A call. The cells of a line come in the records before it."""
+    records, told = [(OPERATIONS[name], *arguments)], arguments
+    if name == "line":
+        category, group, *cells = arguments
+        records = line_records(*arguments)
+        told = (category, group, *map(cell_text, cells))
+    return Item("%s %s" % (name, in_line(told)),
+                b"".join(call_record(*words[:1], words[1:])
+                         for words in records),
+                lambda words: calls.make(name, words, *arguments))
 
 
 def lines_of(output):
@@ -65,28 +86,36 @@ class Ledger:
 
     def call(self, name, arguments):
         """The numbers that a call answers; it is kept in the list."""
-        return self.kept("%s %s" % (name, in_line(arguments)),
-                         call_record(OPERATIONS[name], arguments),
-                         lambda words: calls.make(name, words, *arguments))
+        numbers, = self.kept([call_item(name, arguments)])
+        return numbers
+
+    def calls(self, name, arguments_of_each):
+        """The numbers that each of several calls answers, and the book behind
+        it; all are kept in the list, and played once."""
+        return self.kept([call_item(name, arguments)
+                          for arguments in arguments_of_each])
 
     def load(self, data):
         """The numbers that loading a file answers; it is kept in the list."""
-        return self.kept("load", b"".join(load_records(data)),
-                         lambda words: loading.load(words, data))
-
-    def kept(self, told, records, reckon):
-        """The numbers that records answer, which are kept in the list; what
-        is reckoned of it answers the same and leaves the same words."""
-        answer, dump = self.played([records])
-        numbers, words = numbers_in(answer), numbers_in(dump)
-        reckoned_words = list(self.words)
-        compare_answer(told, numbers, reckon(reckoned_words))
-        compare_words(told, words, reckoned_words)
-        self.records += records
-        self.answers.append(answer)
-        self.words = words
-        self.book = Book(words)
+        numbers, = self.kept([Item("load", b"".join(load_records(data)),
+                                   lambda words: loading.load(words, data))])
         return numbers
+
+    def kept(self, items):
+        """The numbers that each item answers, which are kept in the list; what
+        is reckoned of it answers the same and leaves the same words."""
+        played = self.played([records for item in items
+                              for records in (item.records, EXAMINED)][:-1])
+        for item, answer, dump in zip(items, played[::2], played[1::2]):
+            numbers, words = numbers_in(answer), numbers_in(dump)
+            reckoned_words = list(self.words)
+            compare_answer(item.told, numbers, item.reckon(reckoned_words))
+            compare_words(item.told, words, reckoned_words)
+            self.records += item.records
+            self.answers.append(answer)
+            self.words = words
+            self.book = Book(words)
+            yield numbers
 
     def statements(self, chains):
         """The statements of chains, none of them kept in the list."""

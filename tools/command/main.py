@@ -5,9 +5,11 @@ import os
 import sys
 
 import pack
-from command import explaining, playing, sheets
+from command import explaining, playing, posting, sheets
+from command.amounts import counted
 from command.fields import CHAIN, NUMBER, Wrong, listed, number_of, shown
 from command.programs import PROVED, Differs, Unavailable
+from command.rows import Rows
 from command.texts import (
     NoFile, Unreadable, carriage_returns, lines_of, read)
 
@@ -26,8 +28,10 @@ from the proved programs; what is reckoned to explain them is compared.
     quay explain examples/document.txt 7         how chain 7's shares came about
     quay play                                    calls, typed one after another
     quay play examples/class.txt                 a list of calls with its answers
+    quay lines examples/wharf.txt examples/wharf-sheet.csv 1 all
+                                                 rows of an old workbook
 
-`quay sheet --help`, `quay play --help` and `quay explain --help` say more.
+`quay sheet --help`, `quay play --help` and so on say more.
 A book's text is told in docs/BOOKS.md. 10^12 µg are 1 t.
 """
 
@@ -60,6 +64,7 @@ answered in words; a refused call changes nothing and can be tried again. Only
     enrol category 1 chain 7 code ambient amount 1_000 distance 300_000
     enrol category 2 chain 9 code lowest amount 40 distance 300_000 kg 78
     quote chain 7 mass 1_000 distance 500_000 operation 62_000 provision 10_000
+    line category 1 group all quantity 12.5 operation 3.1..3.4 provision 0.56
     strike 1
     close 1
     statement 7
@@ -84,9 +89,30 @@ go to, and the sum, for operation and for provision; and how a quote was
 rounded. Each result is compared with that of the proved program.
 """
 
+LINES = """\
+Posts the rows of an old workbook (the Wharf Sheet) to a category of a book, for
+a group: all, chilled or frozen. A row has three columns, the quantity in units
+and the operation and the provision factor in g CO2e per unit. Each is a number,
+a span of two numbers as 3.1..3.4, or blank:
+
+    1250.5,2510,620
+    0.5..0.75,1430000,0
+
+A number becomes the nearest whole thousandth of the exact value of its double,
+halves up, and a span the mean of its two. The row is then posted. A blank cell
+is refused. Each row is answered by the number of its line in the file.
+
+The columns are separated by `,`, or by `;` or tabs, and then decimals may stand
+behind a comma. Rows without any cell are passed over, and so is a heading. Where
+a row is not in this form, that is told and nothing is posted.
+
+The book is a book's text or a list of calls, and is not changed: `--entries`
+prints the rows as lines to be put into it.
+"""
+
 # What did not come about, by the command.
 ENDINGS = {"sheet": "no sheet is printed", "explain": "nothing is explained",
-           "play": "nothing is played"}
+           "play": "nothing is played", "lines": "nothing is posted"}
 
 WELCOME = """\
 A fresh book. Type a call, such as `open freight`; `help` tells the words,
@@ -100,9 +126,10 @@ def arguments_of(words):
                                    epilog=STATUSES, formatter_class=form)
     commands = main.add_subparsers(dest="command", metavar="COMMAND")
 
-    def command(name, about, short):
+    def command(name, about, short, usage=None):
         return commands.add_parser(name, help=short, description=about,
-                                   epilog=STATUSES, formatter_class=form)
+                                   epilog=STATUSES, formatter_class=form,
+                                   usage=usage)
 
     sheet = command("sheet", SHEET, "the sheet of a book")
     sheet.add_argument("book", metavar="BOOK.txt",
@@ -119,6 +146,18 @@ def arguments_of(words):
                          help="a book's text; - for standard input")
     explain.add_argument("chain", metavar="CHAIN", nargs="+",
                          help="a chain's number, or its name in the text")
+    lines = command("lines", LINES, "rows of an old workbook, posted",
+                    "quay lines [-h] [--entries] BOOK.txt ROWS.csv CATEGORY "
+                    "GROUP")
+    lines.add_argument("book", metavar="BOOK.txt",
+                       help="a book's text, or a list of calls; - for "
+                            "standard input")
+    lines.add_argument("rows", metavar="ROWS.csv",
+                       help="the rows of the workbook; - for standard input")
+    lines.add_argument("place", metavar="CATEGORY GROUP", nargs="+",
+                       help="where they are posted, as in `1 all`")
+    lines.add_argument("--entries", action="store_true",
+                       help="the rows as lines for the book")
     arguments, more = main.parse_known_args(words)
     if more:
         # Told by the command itself, with its own usage.
@@ -150,13 +189,21 @@ def write_no_more(stream):
     os.dup2(os.open(os.devnull, os.O_WRONLY), stream.fileno())
 
 
-# The three commands. Each returns the exit status.
+# The commands. Each returns the exit status.
+
+def content_of(path):
+    return read(None if path == "-" else path)
+
 
 def book_text(arguments):
+    return checked_text(content_of(arguments.book), arguments.book,
+                        ENDINGS[arguments.command])
+
+
+def checked_text(content, path, ending, source=""):
     """The text of a book without bad lines, None where it has some or no
     record."""
-    path, ending = arguments.book, ENDINGS[arguments.command]
-    text = pack.Text(read(None if path == "-" else path))
+    text = pack.Text(content)
     if not text.is_text():
         tell(pack.NO_TEXT % shown(path), ending)
         return None
@@ -165,9 +212,9 @@ def book_text(arguments):
              % pack.EXPECTED_RECORD, ending)
         return None
     for note in text.notes:
-        tell("note: " + note)
+        tell("note: " + source + note)
     if text.problems:
-        tell(*pack.report(text.problems, "", ending))
+        tell(*pack.report(text.problems, source, ending))
         return None
     return text
 
@@ -231,22 +278,31 @@ def chain_of(text, word):
         shown(word), "; it has %s" % ", ".join(names) if names else ""))
 
 
+def checked_requests(lines, path, ending, source=""):
+    """The requests of a list without bad lines, None where it has some or no
+    call."""
+    requests, problems = playing.requests_of(
+        lines, os.path.dirname(path) if path else "")
+    tell(*["note: " + source + note for note in carriage_returns(lines)])
+    if problems and any("\0" in line for line in lines):
+        tell(pack.NO_TEXT % shown(path or "standard input"), ending)
+        return None
+    if problems:
+        tell(*pack.report(problems, source, ending))
+        return None
+    if not any(requests):
+        tell("there is no call in this list", ending)
+        return None
+    return requests
+
+
 def play(arguments, programs):
     if arguments.calls is None and sys.stdin and sys.stdin.isatty():
         return play_typed(playing.Session(programs))
     path = None if arguments.calls in (None, "-") else arguments.calls
     lines = lines_of(read(path))
-    requests, problems = playing.requests_of(
-        lines, os.path.dirname(path) if path else "")
-    tell(*["note: " + note for note in carriage_returns(lines)])
-    if problems and any("\0" in line for line in lines):
-        tell(pack.NO_TEXT % shown(path or "standard input"), ENDINGS["play"])
-        return BAD_TEXT
-    if problems:
-        tell(*pack.report(problems, "", ENDINGS["play"]))
-        return BAD_TEXT
-    if not any(requests):
-        tell("there is no call in this list", ENDINGS["play"])
+    requests = checked_requests(lines, path, ENDINGS["play"])
+    if requests is None:
         return BAD_TEXT
     session = playing.Session(programs)
     for line in playing.transcript(session, lines, requests):
@@ -281,7 +337,60 @@ def play_typed(session):
         say(*session.answer(request))
 
 
-COMMANDS = {"sheet": sheet, "play": play, "explain": explain}
+def lines(arguments, programs):
+    ending = ENDINGS[arguments.command]
+    try:
+        category, group = posting.place_of(arguments.place)
+    except Wrong as wrong:
+        tell(wrong.args[0], "    " + wrong.args[1], ending)
+        return CANNOT
+    if arguments.book == arguments.rows == "-":
+        tell("the book and the rows cannot both be standard input", ending)
+        return CANNOT
+    path = arguments.book
+    source = shown(path) + ", "
+    content = content_of(path)
+    is_list = posting.is_list(lines_of(content))
+    made_by = (checked_requests(lines_of(content), path, ending, source)
+               if is_list else checked_text(content, path, ending, source))
+    rows = made_by and checked_rows(arguments.rows, ending)
+    if not rows:
+        return BAD_TEXT
+    book = (posting.book_of_list(programs, made_by) if is_list
+            else posting.book_of_text(programs, made_by, source))
+    answers = list(posting.played(book, category, group, rows))
+    if arguments.entries:
+        say(*posting.in_lines(answers, book.word, category, group,
+                              shown(os.path.basename(arguments.rows))))
+    else:
+        say(*posting.table(answers), *posting.remarks(answers))
+    if book.refused:
+        tell("note: %s%s refused; `quay play` shows why" % (source, counted(
+            book.refused, "call of the list is", "calls of the list are")))
+    return (REFUSED if book.refused or any(answer.refused
+                                           for answer in answers) else DONE)
+
+
+def checked_rows(path, ending):
+    """The rows of a file without bad ones, None where it has some or no row.
+    """
+    rows = Rows(read(None if path == "-" else path, "rows are", "CSV"))
+    source = shown("standard input" if path == "-" else path) + ", "
+    if not rows.is_text():
+        tell(pack.NO_TEXT % shown(path), ending)
+        return None
+    for note in rows.notes:
+        tell("note: " + source + note)
+    if rows.problems:
+        tell(*pack.report(rows.problems, source, ending))
+        return None
+    if not rows.rows:
+        tell("there is no row in %s" % source.rstrip(", "), ending)
+        return None
+    return rows.rows
+
+
+COMMANDS = {"sheet": sheet, "play": play, "explain": explain, "lines": lines}
 
 
 def run(words, programs):

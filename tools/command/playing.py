@@ -8,6 +8,7 @@ import pack
 from calculation import book
 from command.amounts import counted, emissions, grouped, moved
 from command.calls import CALLS, OTHERS, call_of, no_such_word
+from command.cells import PLACES, by_exact_value, conversion
 from command.fields import (
     VALUES, Wrong, as_thousands, expected_fields, listed, numbered, printable,
     shown)
@@ -155,6 +156,16 @@ def told_entry(session, arguments, numbers):
     yield entry_line(session.ledger.book, number)
 
 
+def told_line(session, arguments, numbers):
+    """The entry, and how its numbers came about."""
+    yield from told_entry(session, arguments, numbers)
+    _, _, *cells = arguments
+    for place, cell in zip(PLACES, cells):
+        yield "    " + conversion(place, cell)
+        for note in by_exact_value(cell):
+            yield "        " + note
+
+
 def told_element(session, arguments, numbers):
     number, = numbers
     yield element_line(session.ledger.book, session.names, number)
@@ -233,8 +244,8 @@ def told_intensity(session, arguments, numbers):
 
 ANSWERS = {
     "fresh": told_fresh, "open": told_category, "post": told_entry,
-    "strike": told_strike, "enrol": told_element, "quote": told_quote,
-    "close": told_close, "statement": told_statement,
+    "line": told_line, "strike": told_strike, "enrol": told_element,
+    "quote": told_quote, "close": told_close, "statement": told_statement,
     "intensity": told_intensity,
 }
 
@@ -360,6 +371,7 @@ def both_amounts(record):
 WHAT_FOR = {
     "open": "opens a category: freight, passengers, both or hub",
     "post": "posts an entry of emissions to a category",
+    "line": "posts a line from the Wharf Sheet, the old workbook, to a category",
     "strike": "strikes an entry, by its number",
     "enrol": "enrols freight or passengers of a chain in a category",
     "quote": "quotes a leg of another carrier, in no category",
@@ -381,6 +393,10 @@ WHAT_FOR = {
 
 # What else is worth knowing of a word.
 MORE = {
+    "line": "a cell is blank (`-`), a number, or a span with two points; it "
+            "becomes whole thousandths, the nearest to its double, halves up, "
+            "and a span the mean of its two; the cells may stand without their "
+            "words, in this order",
     "strike": "an entry is struck once and stays struck; its number is not "
               "given again",
     "enrol": "the passengers of a category are all weighed, each element with "

@@ -8,8 +8,12 @@ is told.
 from collections import namedtuple
 
 from calculation import book, calls, closing, loading
+from calculation.workbook import (
+    BLANK, converted, is_exchanged, is_unusable, value_of)
 from command.amounts import grouped
 from command.calls import CALLS
+from command.cells import PLACES as CELLS
+from command.cells import number_text
 from command.fields import listed
 from command.naming import (
     code_words, group_word, group_words, kind_words, plainly_called)
@@ -35,16 +39,31 @@ MEANINGS = {
     13: "a flag is above 1, or a field that must be 0 is not",
     14: "passengers are weighed where earlier ones of their category are not, "
         "or the reverse",
+    15: "a cell is blank, or its double is not finite, below zero or above its "
+        "limit: 10^9 units, 10^7 g per unit",
+    16: "the second double of a span is below its first",
 }
 
 # How one speaks of records: how one is called, from its table's word and its
-# number, and how entries get another group.
-Speech = namedtuple("Speech", "called regrouped")
-PLAYED = Speech(plainly_called, "struck, and posted again with `group all`")
+# number, how entries get another group, and how a category is kept open, from
+# its number.
+Speech = namedtuple("Speech", "called regrouped to_keep_open")
+PLAYED = Speech(
+    plainly_called, "struck, and posted again with `group all`",
+    lambda category: "begin again with `fresh` or `load`, and close it later")
+
+
+def in_text(text):
+    """How one speaks of the records of a book's text."""
+    return Speech(text.called, "written with `group all`",
+                  lambda category: "take `close` off line %d"
+                  % text.line_of(1, category))
+
 
 # A refused call: its name, its arguments by their words, the book that it was
 # refused by, and how one speaks of its records.
-Refused = namedtuple("Refused", "name arguments book called regrouped")
+Refused = namedtuple("Refused",
+                     "name arguments book called regrouped to_keep_open")
 
 # What holds, in a few words, and what to look at.
 Reason = namedtuple("Reason", "what look")
@@ -115,8 +134,7 @@ def closed_or_struck(refused):
                "strike": ", and entry %s is of it" % entry}.get(
                    refused.name, ""),
             "its emissions are handed out, and it takes no more entries, "
-            "elements or strikes; begin again with `fresh` or `load`, and "
-            "close it later")
+            "elements or strikes; " + refused.to_keep_open(category))
 
 
 def still_open(refused):
@@ -229,9 +247,10 @@ def measures(refused):
 
 def full(refused):
     """The reasons of 8."""
+    entry = ("entry", "entries", book.ENTRIES)
     one, more, listing = {
         "open": ("category", "categories", book.CATEGORIES),
-        "post": ("entry", "entries", book.ENTRIES),
+        "post": entry, "line": entry,
     }.get(refused.name, ("element", "elements and quotes", book.ELEMENTS))
     yield Reason("no room for another %s" % one,
                  "a book has room for %d %s%s" % (
@@ -297,10 +316,11 @@ def over_limit(refused):
                              "%s would be %s" % (amount, grouped(result)))
         return
     emissions, activity = added(refused)
-    units = ("a quantity is in thousandths of a unit, a factor in mg"
-             if refused.name == "post" else
-             "an intensity is in mg per tonne-km, a mass in kg, a distance in "
-             "m")
+    units = {
+        "post": "a quantity is in thousandths of a unit, a factor in mg",
+        "line": "a quantity is in units, a factor in g CO2e per unit",
+    }.get(refused.name, "an intensity is in mg per tonne-km, a mass in kg, a "
+          "distance in m")
     for amount, more in zip(book.AMOUNTS, emissions):
         would = book.emissions_of(refused.book, amount) + more
         if would > book.MOST_EMISSIONS:
@@ -318,7 +338,7 @@ def over_limit(refused):
 def added(refused):
     """The emissions and the activity that a call would add."""
     numbers = refused.arguments
-    if refused.name == "post":
+    if refused.name in ("post", "line"):
         return calls.entry_amounts(numbers["quantity"], numbers["operation"],
                                    numbers["provision"]), 0
     if refused.name == "quote":
@@ -340,15 +360,85 @@ REASONS = {
 }
 
 
+# The reasons of a line's cells, which come before those of its post.
+
+def unusable(refused):
+    """The reasons of 15."""
+    for cell, place in zip(cells_of(refused), CELLS):
+        if not is_unusable(cell, place.limit):
+            continue
+        look = "expected 0 to %s %s" % (grouped(place.limit), place.unit)
+        if cell == BLANK:
+            yield Reason("the %s is blank" % place.name, look)
+        for end, bits in enumerate(cell):
+            why = why_unusable(value_of(bits), place.limit)
+            if why:
+                yield Reason("%s, %s, is %s" % (double_called(place, cell, end),
+                                                number_text(bits), why), look)
+
+
+def why_unusable(value, limit):
+    return ("not finite" if value is None else "below zero" if value < 0
+            else "above its limit" if value > limit else "")
+
+
+def exchanged(refused):
+    """The reasons of 16."""
+    for cell, place in zip(cells_of(refused), CELLS):
+        if is_exchanged(cell):
+            first, second = map(number_text, cell)
+            yield Reason(
+                "%s, %s, is below its first, %s" % (
+                    double_called(place, cell, 1), second, first),
+                "a span goes from its smaller number to its larger one, as "
+                "%s..%s does" % (second, first))
+
+
+def cells_of(refused):
+    if refused.name != "line":
+        return []
+    return [refused.arguments[place.word] for place in CELLS]
+
+
+def double_called(place, cell, end):
+    """A double of a cell by its place."""
+    if len(cell) == 1:
+        return "the %s" % place.name
+    return "the %s double of the %s" % (("first", "second")[end], place.name)
+
+
+OF_CELLS = {15: unusable, 16: exchanged}
+
+
 def reasons(number, words, name, arguments, speech):
-    """The reasons of a refused call on a book's words."""
-    refused = Refused(name, dict(zip(words_of(name), arguments)),
-                      book.Book(words), *speech)
-    found = list(REASONS[number](refused)) if number in REASONS else []
+    """The reasons of a refused call on a book's words. A line is refused by
+    its cells, whatever the book is, or as the post of what they become."""
+    refused = Refused(name, dict(zip(words_of(name), arguments)), None,
+                      *speech)
+    found = []
+    if number in OF_CELLS:
+        found = list(OF_CELLS[number](refused))
+    elif number in REASONS and not is_refused_by_cells(refused):
+        found = list(REASONS[number](as_posted(refused)._replace(
+            book=book.Book(words))))
     if not found:
         raise Differs("the program refuses with %d, and nothing of that "
                       "number is found here" % number)
     return found
+
+
+def is_refused_by_cells(refused):
+    return any(list(reasons_of(refused)) for reasons_of in OF_CELLS.values())
+
+
+def as_posted(refused):
+    """A line with the numbers that its cells become."""
+    if refused.name != "line":
+        return refused
+    return refused._replace(arguments={
+        **refused.arguments,
+        **{place.word: converted(refused.arguments[place.word])
+           for place in CELLS}})
 
 
 # Refused calls.
@@ -374,7 +464,7 @@ def of_file(numbers, text, ledger):
     found = (list(bad_field(text.tables[table - 1][record - 1]))
              if step.bad_field else
              reasons(number, ledger.words, step.name, step.arguments,
-                     Speech(text.called, "written with `group all`")))
+                     in_text(text)))
     told = "%s %d: %s (refused %d)" % (
         PLACES[table], record, found[0].what, number)
     return (text.line_of(1 if table == 4 else table, record), told,

@@ -15,20 +15,21 @@ class NoFile(Unreadable):
     """There is no file, or it cannot be read."""
 
 
-# How files begin that are taken for a text by mistake.
+# How files begin that are taken for a text by mistake, and what is said of
+# them, with the form that is wanted.
 NO_TEXTS = (
     (b"\x03\x37\0\0", "it is packed already; target/bin/quaymeter reads it "
                       "from its standard input"),
     (b"PK\x03\x04", "it is a document of an office program; save it there as "
-                    "plain text"),
+                    "{form}"),
     (b"\xd0\xcf\x11\xe0", "it is a document of an office program; save it "
-                          "there as plain text"),
-    (b"{\\rtf", "it is a text with formats (RTF); save it as plain text"),
-    (b"%PDF", "it is a PDF; a book is plain text"),
+                          "there as {form}"),
+    (b"{\\rtf", "it is a text with formats (RTF); save it as {form}"),
+    (b"%PDF", "it is a PDF; {what} {form}"),
 )
 
 
-def read(path):
+def read(path, what="a book is", form="plain text"):
     """The text at a path, None for standard input."""
     name = "standard input" if path is None else shown(path)
     try:
@@ -41,9 +42,10 @@ def read(path):
         raise NoFile("%s cannot be read: %s" % (name, error.strerror))
     except ValueError:
         raise NoFile("%s is no name of a file" % name)
-    for start, what in NO_TEXTS:
+    for start, why in NO_TEXTS:
         if data.startswith(start):
-            raise Unreadable("%s cannot be read: %s" % (name, what))
+            raise Unreadable("%s cannot be read: %s" % (
+                name, why.format(what=what, form=form)))
     return decoded(data)
 
 
