@@ -159,9 +159,9 @@ def check_cell(check, cell):
     """The grounds and the number by both ways, in each place."""
     by_doubles = cell_grounds([cell] * 3)
     for place, limit in enumerate(workbook.LIMITS, 1):
-        unusable = workbook.is_unusable(cell, limit)
-        check(unusable == by_doubles[15, place], "15 by both ways", cell)
-    if unusable:
+        check(workbook.is_unusable(cell, limit) == by_doubles[15, place],
+              "15 by both ways", cell)
+    if workbook.is_unusable(cell, max(workbook.LIMITS)):
         return
     check(workbook.is_exchanged(cell) == by_doubles[16, 1],
           "16 by both ways", cell)
