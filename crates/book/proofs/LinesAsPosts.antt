@@ -49,7 +49,7 @@ module _ (ws : List ℕ) (l : LineArguments) where
       go zero is = inr (as-posted is)
       go (suc n) is = inl (cells-refused (λ z. omega (arith, is, z)))
 
--- the arguments of its post, from what its cells come to
+-- the arguments of its post, with these measures
 abbrev pub postWith : LineArguments → ℕ → ℕ → ℕ → PostArguments
 postWith l quantity operation provision =
     record {

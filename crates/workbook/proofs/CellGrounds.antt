@@ -23,7 +23,7 @@ by-number : (refusal value : ℕ) → (refusalOf (conversionBy refusal value) �
 by-number zero value = (refl, refl)
 by-number (suc n) value = (refl, refl)
 
--- document 02's number and the value of what a cell comes to
+-- document 02's number and the value of a cell's conversion
 abbrev pub NumbersOf : ℕ → Cell → Conversion → Type 0
 NumbersOf limit cell r = (refusalOf r ≡ cellRefusal limit cell) × (valueOf r ≡ accepted (cellRefusal limit cell) (cellValue cell) 0)
 
@@ -37,7 +37,7 @@ abbrev isValue : Conversion → Bool
 isValue (Value value) = true
 isValue (Refused number) = false
 
--- a double by what it comes to
+-- a double by its conversion
 pub number-refused : (limit : ℕ) (x : Float) (n : ℕ) → conversionOf limit (Number x) ≡ Refused n → isRefused limit x ≡ true
 unfolding conversionOf
 number-refused limit x n e = go (isRefused limit x) e
@@ -118,7 +118,7 @@ module _ (line : Line) where
       cell-first quantityLimit (line .quantity) (cellGrounds factorLimit (line .«operation_factor») ++ p)
       ∙ ap (λ (n : ℕ). accepted quantityRefusal n quantityRefusal) (cell-first factorLimit (line .«operation_factor») p)
 
-  -- and so does a line
+  -- a line gives 15 and 16 alone
   pub line-never : (number : ℕ) → eqb number 15 ≡ false → eqb number 16 ≡ false → neverGiven number (lineGrounds line) ≡ true
   line-never number e f =
       let operation = cellGrounds factorLimit (line .«operation_factor») in
@@ -131,7 +131,7 @@ module _ (line : Line) where
   pub cells-accepted : lineRefusal line ≡ 0 → (quantityRefusal ≡ 0) × (operationRefusal ≡ 0) × (provisionRefusal ≡ 0)
   cells-accepted e = none-of-three quantityRefusal operationRefusal provisionRefusal (sym refusal-by-cells ∙ e)
 
-  -- from the numbers of what the three cells come to
+  -- from the numbers of the three conversions
   module _ (q o p : Conversion) (of-q : NumbersOf quantityLimit (line .quantity) q) (of-o : NumbersOf factorLimit (line .«operation_factor») o)
       (of-p : NumbersOf factorLimit (line .«provision_factor») p) where
     line-refusal : firstNumber (refusalOf q) (refusalOf o) (refusalOf p) ≡ lineRefusal line
