@@ -19,7 +19,7 @@ from cases.line_writer import (
 from cases.random_cases import any_cell
 
 SEED = 15
-RANDOM_LINES = 1600
+RANDOM_LINES = 3_700
 
 ONE = single(0.001)
 MOST = (1e9, 1e7, 1e7)
