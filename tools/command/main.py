@@ -211,12 +211,16 @@ def checked_text(content, path, ending, source=""):
         tell(pack.NO_RECORD, "    %s; docs/BOOKS.md tells how they are written"
              % pack.EXPECTED_RECORD, ending)
         return None
-    for note in text.notes:
+    return text if is_good(text, source, ending) else None
+
+
+def is_good(content, source, ending):
+    """Whether no line of it is bad. Its notes and its bad lines are told."""
+    for note in content.notes:
         tell("note: " + source + note)
-    if text.problems:
-        tell(*pack.report(text.problems, source, ending))
-        return None
-    return text
+    if content.problems:
+        tell(*pack.report(content.problems, source, ending))
+    return not content.problems
 
 
 def sheet(arguments, programs):
@@ -379,10 +383,7 @@ def checked_rows(path, ending):
     if not rows.is_text():
         tell(pack.NO_TEXT % shown(path), ending)
         return None
-    for note in rows.notes:
-        tell("note: " + source + note)
-    if rows.problems:
-        tell(*pack.report(rows.problems, source, ending))
+    if not is_good(rows, source, ending):
         return None
     if not rows.rows:
         tell("there is no row in %s" % source.rstrip(", "), ending)
