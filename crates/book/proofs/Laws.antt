@@ -2,7 +2,7 @@
 -- what an accepted one changes, and that it keeps all else (`Fresh`; `CategoryAdded`, `EntryAdded`, `EntryStruck`, `ElementAdded` of
 -- `RecordsAfterWrite` of `book_words`; `CategoryClosed` of `CloseWrites` of `book_shares`); that a refused one leaves the list as it
 -- was; that either leaves a sound book sound; of an opening and a closing, that they leave the sums of ground 10 as they are. Of a
--- statement: what it answers for an unused chain; it and the class total are within the limits of a book.
+-- statement: the walk that it is made by, and what it answers for an unused chain; it and the class total are within the limits of a book.
 -- Assumes nothing.
 use mathlib.Core.Bool.{true, false, cond, not, _&&_}
 use mathlib.Core.List.{List}
@@ -35,6 +35,7 @@ use Rattle.book.specs.Calls.{postReply, postGrounds}
 use Rattle.book.specs.declared.replies.Reply.{Reply}
 use Rattle.book.specs.Lines.{linePost, lineReply, lineBook}
 use Rattle.book.specs.Statements.{ofChain, waits, elementsOver, waitingOver, sharesOver, zerosBeside, statementOf, statementRefusal, statementReply}
+use Rattle.book.specs.Walk.{withTotal, StatementWalk}
 use Rattle.apportion.proofs.Grounds.{or-none, refused-old, either, not-given}
 use Rattle.apportion.proofs.Sums.{sum-zero}
 use Rattle.apportion.proofs.Lists.{filled, filled-length, list-length, list-at}
@@ -55,8 +56,10 @@ use Rattle.book.proofs.SumsAfterCall.{category-sums, closing-sums}
 use Rattle.book.proofs.CallsKeepSound.{open-keeps, post-keeps, strike-keeps, element-keeps}
 use Rattle.book.proofs.QuotedAmounts.{quote-measured}
 use Rattle.book_shares.proofs.CloseAccepted.{accepted-closing}
+use Rattle.book.proofs.StatementWalk.{walk-holds}
 pub use Rattle.book_shares.proofs.Laws.{close-refused, close-closed, shares-handed, share-near-exact, close-sound}
 pub use Rattle.book.proofs.StatementWalk.{StatementWithin, statement-within, class-total-within}
+pub use Rattle.book.proofs.StatementWalk.{held-next, held-fits, chain-alone, held-statement, held-total}
 
 module _ (ws : List ℕ) where
   -- where ground 1 does not hold, the book is there
@@ -329,6 +332,14 @@ module _ (ws : List ℕ) where
     pub statement-accepted : sound ws ≡ true → isChain chain ≡ true → statementReply ws chain ≡ statementOf ws chain
     unfolding statementReply statementRefusal
     statement-accepted fine known = rw (fine, known)
+
+    -- the walk: what it holds after the first k elements, and the reply
+    pub statement-walk : sound ws ≡ true → isChain chain ≡ true → StatementWalk ws chain
+    statement-walk fine known =
+        record {
+          holds = walk-holds ws (ofChain chain);
+          replies = statement-accepted fine known ∙ sym (held-statement ws chain) ∙ ap withTotal (sym (walk-holds ws (ofChain chain) (elements ws)));
+        }
 
     -- "zeros for an unused chain"
     pub statement-unused : sound ws ≡ true → isChain chain ≡ true → ((p : ℕ) → p < elements ws → elementAt ws p .chain ≡ chain → ⊥)

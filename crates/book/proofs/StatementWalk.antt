@@ -1,15 +1,15 @@
--- What the walk of a statement, or of the class total, holds after the first n elements: the counts and sums over those among them that
--- pass its test, which asks for the chain. Assumes nothing.
+-- What the walk of a statement, or of the class total, holds after the first k elements. Assumes nothing.
 use mathlib.Core.Bool.{true, false, cond, _&&_, Bool, not, Bool·not-not}
 use mathlib.Core.List.{List}
 use mathlib.Core.Logic.{_⊎_, ⊎-elim}
-use mathlib.Core.Path.{_≡_, refl, ap, sym, fun-ext}
-use Prim.Native.Nat.{ℕ, _≤_, _<_, _+_}
+use mathlib.Core.Path.{_≡_, refl, _∙_, ap, sym, fun-ext}
+use Prim.Native.Nat.{ℕ, zero, suc, _≤_, _<_, _+_}
 use native.Mathlib.Nat.{add-zero, eq-zero-or-pos}
+use native.Mathlib.Numerals.{add-one}
 use native.Mathlib.Omega.{arith}
 use lib.Dec.{eqb, leb}
 use borrow.Author.Tests.{eq-eqb, ne-eqb, le-leb, lt-leb}
-use Rattle.apportion.specs.Places.{oneIf, countBelow, sumBelow}
+use Rattle.apportion.specs.Places.{oneIf, sumBelow}
 use Rattle.book_words.specs.Book.{elements, mostElements, elementAt, categories, categoryOf}
 use Rattle.book_words.specs.Inner.Steps.{numberedCategory}
 use Rattle.book_words.specs.Measures.{between, mostChains}
@@ -20,6 +20,8 @@ use Rattle.book_words.specs.Totals.{mostEmissions, shareOf}
 use Rattle.book.specs.declared.replies.Statement.{Statement}
 use Rattle.book.specs.ClassTotal.{classTotal}
 use Rattle.book.specs.Inner.Chains.{ofChains}
+use Rattle.book.specs.declared.walks.Held.{Held}
+use Rattle.book.specs.Walk.{heldAfter, heldWith, walkOver, withTotal}
 use Rattle.book.specs.Statements.{elementsOver, waitingOver, sharesOver, statementOver, waits, ofChain, statementOf}
 use Rattle.book_words.specs.declared.records.Category.{Category}
 use Rattle.book_words.specs.declared.records.Element.{Element}
@@ -43,17 +45,6 @@ waits-told ws e r is inside t h =
     rw (← h, ap (λ (x : Category). x .closed) there) (ap (λ (b : Bool). oneIf (not (eqb (e .category) 0) && b)) unclosed))
     (eq-zero-or-pos (e .category))
 
--- the share of the element at a place, where it passes the test
-abbrev ownShare : List ℕ → (Element → Bool) → Side → ℕ → ℕ
-ownShare ws test side p = cond (test (elementAt ws p)) (shareOf side (elementAt ws p)) 0
-
-pub record Walked (ws : List ℕ) (test : Element → Bool) (n counted waiting byOperation byProvision : ℕ) : Type 0 where
-  pub inside : n ≤ elements ws
-  pub all-counted : counted ≡ countBelow n (λ p. test (elementAt ws p))
-  pub all-waiting : waiting ≡ countBelow n (λ p. test (elementAt ws p) && waits ws (elementAt ws p))
-  pub all-operation : byOperation ≡ sumBelow n (ownShare ws test operation)
-  pub all-provision : byProvision ≡ sumBelow n (ownShare ws test provision)
-
 -- the numbers of a statement within the limits of a book
 pub record StatementWithin (s : Statement) : Type 0 where
   pub elements-most : s .elements ≤ mostElements
@@ -63,84 +54,115 @@ pub record StatementWithin (s : Statement) : Type 0 where
   pub total-most : s .total ≤ mostEmissions + mostEmissions
 
 module _ (ws : List ℕ) (test : Element → Bool) where
-  pub walked-start : Walked ws test 0 0 0 0 0
-  walked-start = record { inside = omega arith; all-counted = refl; all-waiting = refl; all-operation = refl; all-provision = refl }
+  -- the share of the element at a place, where it passes the test
+  abbrev ownShare : Side → ℕ → ℕ
+  ownShare side p = cond (test (elementAt ws p)) (shareOf side (elementAt ws p)) 0
 
-  -- one element more, which passes the test or not
-  module _ {n counted waiting byOperation byProvision : ℕ} (w : Walked ws test n counted waiting byOperation byProvision) (h : n < elements ws)
-      (e : Element) (is : e ≡ elementAt ws n) where
-    next : (t : Bool) → test e ≡ t
-        → Walked ws test (n + 1) (counted + oneIf t) (waiting + oneIf (t && waits ws e)) (byOperation + cond t (e .operation) 0)
-        (byProvision + cond t (e .provision) 0)
-    next t own =
-        rw (← own, is)
+  -- one element more
+  pub held-next : (k : ℕ) → heldAfter ws test (k + 1) ≡ heldWith ws test (heldAfter ws test k) (elementAt ws k)
+  unfolding heldAfter
+  held-next k =
+      rw (
+        sum-next k (λ p. oneIf (test (elementAt ws p))),
+        sum-next k (λ p. oneIf (test (elementAt ws p) && waits ws (elementAt ws p))),
+        sum-next k (ownShare operation),
+        sum-next k (ownShare provision),
+      )
+      (go (test (elementAt ws k)) (heldAfter ws test k))
+    where
+      go : (own : Bool) (held : Held) → _≡_ {A = Held}
+          (record {
+            elements = held .elements + oneIf own;
+            waiting = held .waiting + oneIf (own && waits ws (elementAt ws k));
+            operation = held .operation + cond own (elementAt ws k .operation) 0;
+            provision = held .provision + cond own (elementAt ws k .provision) 0;
+          })
+          (cond own
+          (record {
+            elements = held .elements + 1;
+            waiting = held .waiting + oneIf (waits ws (elementAt ws k));
+            operation = held .operation + elementAt ws k .operation;
+            provision = held .provision + elementAt ws k .provision;
+          })
+          held)
+      go true held = refl
+      go false held = rw (add-zero (held .elements), add-zero (held .waiting), add-zero (held .operation), add-zero (held .provision))
+
+  -- by the element that was read: it passes the test, or it does not
+  module _ (k : ℕ) {held : Held} {e : Element} (before : held ≡ heldAfter ws test k) (is : e ≡ elementAt ws k) where
+    with-read : heldWith ws test held e ≡ heldAfter ws test (k + 1)
+    with-read = rw (before, is) (sym (held-next k))
+
+    pub held-own : test e ≡ true → {one : ℕ} → one ≡ oneIf (waits ws e)
+        → _≡_ {A = Held}
         (record {
-          inside = omega arith;
-          all-counted = rw (w .all-counted, sum-next n (λ p. oneIf (test (elementAt ws p))));
-          all-waiting = rw (w .all-waiting, sum-next n (λ p. oneIf (test (elementAt ws p) && waits ws (elementAt ws p))));
-          all-operation = rw (w .all-operation, sum-next n (ownShare ws test operation));
-          all-provision = rw (w .all-provision, sum-next n (ownShare ws test provision));
+          elements = held .elements + 1;
+          waiting = held .waiting + one;
+          operation = held .operation + e .operation;
+          provision = held .provision + e .provision;
         })
+        (heldAfter ws test (k + 1))
+    held-own own waited = rw waited (rw own at with-read)
 
-    pub walked-own : test e ≡ true → (one : ℕ) → one ≡ oneIf (waits ws e)
-        → Walked ws test (n + 1) (counted + 1) (waiting + one) (byOperation + e .operation) (byProvision + e .provision)
-    walked-own own one waited = rw waited (next true own)
+    pub held-other : test e ≡ false → held ≡ heldAfter ws test (k + 1)
+    held-other other = rw other at with-read
 
-    pub walked-other : test e ≡ false → Walked ws test (n + 1) counted waiting byOperation byProvision
-    walked-other other = simp add-zero at (next false other)
+  -- so the walk holds that after every element
+  pub walk-holds : (k : ℕ) → walkOver ws test k ≡ heldAfter ws test k
+  unfolding heldAfter
+  walk-holds zero = refl
+  walk-holds (suc k) = ap (λ (held : Held). heldWith ws test held (elementAt ws k)) (walk-holds k) ∙ sym (held-next k) ∙ rw add-one
+
+  -- the counts are at most the number of elements passed
+  held-counts : (k : ℕ) → (heldAfter ws test k .elements ≤ k) × (heldAfter ws test k .waiting ≤ k)
+  unfolding heldAfter
+  held-counts k = (
+    count-most k (λ p. test (elementAt ws p)),
+    count-most k (λ p. test (elementAt ws p) && waits ws (elementAt ws p)),
+  )
 
   -- the shares that are added are within 10^18
-  shares-most : sound ws ≡ true → (n : ℕ) → n ≤ elements ws → (side : Side) → sumBelow n (ownShare ws test side) ≤ mostEmissions
-  shares-most fine n h side =
+  shares-most : sound ws ≡ true → (k : ℕ) → k ≤ elements ws → (side : Side) → sumBelow k (ownShare side) ≤ mostEmissions
+  shares-most fine k h side =
       omega (
         arith,
-        sum-le n (ownShare ws test side) (λ p. shareOf side (elementAt ws p))
+        sum-le k (ownShare side) (λ p. shareOf side (elementAt ws p))
             (λ p i. cond-most (test (elementAt ws p)) (shareOf side (elementAt ws p))),
-        sum-more n (elements ws) (λ p. shareOf side (elementAt ws p)) h,
+        sum-more k (elements ws) (λ p. shareOf side (elementAt ws p)) h,
         shares-limited ws fine side,
       )
 
-  -- so are the sums that the walk holds
-  pub walked-most : {n counted waiting byOperation byProvision : ℕ} → sound ws ≡ true → Walked ws test n counted waiting byOperation byProvision
-      → (byOperation ≤ mostEmissions) × (byProvision ≤ mostEmissions)
-  walked-most {n} fine w = (
-    omega (arith, w .all-operation, shares-most fine n (w .inside) operation),
-    omega (arith, w .all-provision, shares-most fine n (w .inside) provision),
-  )
+  held-most : sound ws ≡ true → (k : ℕ) → k ≤ elements ws
+      → (heldAfter ws test k .operation ≤ mostEmissions) × (heldAfter ws test k .provision ≤ mostEmissions)
+  unfolding heldAfter
+  held-most fine k h = (shares-most fine k h operation, shares-most fine k h provision)
 
-  -- the counts are at most the number of elements passed
-  pub walked-fits : {n counted waiting byOperation byProvision : ℕ} → Walked ws test n counted waiting byOperation byProvision → (counted ≤ n) × (waiting ≤ n)
-  walked-fits {n} w = (
-    omega (arith, w .all-counted, count-most n (λ p. test (elementAt ws p))),
-    omega (arith, w .all-waiting, count-most n (λ p. test (elementAt ws p) && waits ws (elementAt ws p))),
-  )
+  -- so all that the walk holds is within the limits of a book
+  pub held-fits : sound ws ≡ true → (k : ℕ) → k ≤ elements ws → {held : Held} → held ≡ heldAfter ws test k
+      → (held .elements ≤ mostElements) × (held .waiting ≤ mostElements) × (held .operation ≤ mostEmissions) × (held .provision ≤ mostEmissions)
+  held-fits fine k h is =
+      let few = sound-counted ws fine in
+      let counts = held-counts k in
+      let shares = held-most fine k h in
+      rw is (omega (arith, few, counts), omega (arith, few, counts), shares .0, shares .1)
 
   -- after all elements it is the statement over those that pass
-  pub walked-done : {n counted waiting byOperation byProvision : ℕ} → Walked ws test n counted waiting byOperation byProvision → elements ws ≤ n
-      → _≡_ {A = Statement}
-      (record { refusal = 0; elements = counted; waiting = waiting; operation = byOperation; provision = byProvision; total = byOperation + byProvision })
-      (statementOver ws test)
-  unfolding elementsOver waitingOver sharesOver
-  walked-done {n} w h =
-      let end : n ≡ elements ws = omega (arith, w .inside) in
-      rw (w .all-counted, w .all-waiting, w .all-operation, w .all-provision, end)
+  held-all : withTotal (heldAfter ws test (elements ws)) ≡ statementOver ws test
+  unfolding heldAfter elementsOver waitingOver sharesOver
+  held-all = refl
 
   -- so that statement is within the limits of a book
   over-within : sound ws ≡ true → StatementWithin (statementOver ws test)
-  unfolding elementsOver waitingOver sharesOver
   over-within fine =
-      let few = sound-counted ws fine in
-      let all : Walked ws test (elements ws) _ _ _ _ =
-      record { inside = omega arith; all-counted = refl; all-waiting = refl; all-operation = refl; all-provision = refl } in
-      let counts = walked-fits all in
-      let shares = walked-most fine all in
-      record {
-        elements-most = omega (arith, few, counts);
-        waiting-most = omega (arith, few, counts);
-        operation-most = shares .0;
-        provision-most = shares .1;
-        total-most = omega (arith, shares);
-      }
+      let fits = held-fits fine (elements ws) (omega arith) refl in
+      rw (← held-all)
+      (record {
+        elements-most = fits .0;
+        waiting-most = fits .1;
+        operation-most = fits .2;
+        provision-most = fits .3;
+        total-most = omega (arith, fits);
+      })
 
 -- the elements of the chains from a chain to itself are the chain's
 from-itself : (chain n : ℕ) → between chain chain n ≡ eqb n chain
@@ -154,13 +176,16 @@ from-itself chain n =
     m)
     (order n chain)
 
--- so the statement over them is the chain's
-pub over-chain : (ws : List ℕ) (chain : ℕ) → statementOver ws (ofChains chain chain) ≡ statementOf ws chain
+pub chain-alone : (chain : ℕ) → ofChains chain chain ≡ ofChain chain
+chain-alone chain = fun-ext (λ e. from-itself chain (e .chain))
+
+-- what the walk of a chain then holds, with the total, is its statement
+pub held-statement : (ws : List ℕ) (chain : ℕ) → withTotal (heldAfter ws (ofChain chain) (elements ws)) ≡ statementOf ws chain
 unfolding statementOf
-over-chain ws chain = ap (statementOver ws) (fun-ext (λ e. from-itself chain (e .chain)))
+held-statement ws chain = held-all ws (ofChain chain)
 
 -- and the statement over the chains from 1 to 10,000 is the class total
-pub over-all : (ws : List ℕ) → sound ws ≡ true → statementOver ws (ofChains 1 mostChains) ≡ classTotal ws
+over-all : (ws : List ℕ) → sound ws ≡ true → statementOver ws (ofChains 1 mostChains) ≡ classTotal ws
 unfolding classTotal elementsOver waitingOver sharesOver
 over-all ws fine =
     rw (
@@ -184,6 +209,9 @@ over-all ws fine =
 
     shares : (side : Side) → sharesOver ws (ofChains 1 mostChains) side ≡ sumBelow n (λ p. shareOf side (elementAt ws p))
     shares side = sum-cong n (λ p. cond (own p) (shareOf side (elementAt ws p)) 0) (λ p. shareOf side (elementAt ws p)) (λ p h. rw (all p h))
+
+pub held-total : (ws : List ℕ) → sound ws ≡ true → withTotal (heldAfter ws (ofChains 1 mostChains) (elements ws)) ≡ classTotal ws
+held-total ws fine = held-all ws (ofChains 1 mostChains) ∙ over-all ws fine
 
 -- so both are within the limits of a book, and fit in 64 bits
 pub statement-within : (ws : List ℕ) (chain : ℕ) → sound ws ≡ true → StatementWithin (statementOf ws chain)

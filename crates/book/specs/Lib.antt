@@ -2,5 +2,6 @@
 pub mod Calls
 pub mod Lines
 pub mod Statements
+pub mod Walk
 pub mod ClassTotal
 pub mod Inner

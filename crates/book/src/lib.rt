@@ -12,6 +12,7 @@ mod quoting;
 mod replies;
 mod statements;
 mod striking;
+mod walks;
 
 pub use arguments::EnrolArguments;
 pub use arguments::LineArguments;
@@ -35,7 +36,8 @@ pub use replies::Counted;
 pub use replies::Reply;
 pub use replies::Statement;
 pub use replies::refusal_alone;
-pub use statements::class_total_sound;
 pub use statements::statement;
-pub use statements::statement_sound;
 pub use striking::strike;
+pub use walks::Held;
+pub use walks::NOTHING;
+pub use walks::walk_on;

@@ -69,7 +69,7 @@ entryStart place = startOf entryList place
 abbrev pub elementStart : ℕ → ℕ
 elementStart place = startOf elementList place
 
--- the words that are read or written by themselves, each counted from the start of its record
+-- the words that have a name, each counted from the start of its record
 abbrev pub closedWord : ℕ
 closedWord = 1
 

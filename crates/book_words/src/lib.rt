@@ -24,7 +24,6 @@ pub use mixture::mixes;
 pub use records::BOOK_LENGTH;
 pub use records::CATEGORIES;
 pub use records::CATEGORY_LIST;
-pub use records::CHAIN_WORD;
 pub use records::CLOSED_WORD;
 pub use records::Category;
 pub use records::ELEMENT_LIST;

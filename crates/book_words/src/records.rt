@@ -45,7 +45,7 @@ pub const ELEMENT_LIST: Layout = Layout {
     width: 9,
 };
 
-// The words that are read or written by themselves, each counted from the start of its record.
+// The words that have a name, each counted from the start of its record.
 pub const CLOSED_WORD: usize = 1;
 
 pub const STRUCK_WORD: usize = 4;

@@ -19,7 +19,7 @@ use Rattle.book_words.specs.declared.records.Element.{Element}
 use Rattle.book_words.proofs.Booleans.{and-both}
 use Rattle.book_words.proofs.ShareSums.{sum-by-chain}
 use Rattle.report.specs.Sheet.{isUsed, statementNumbers, columnSum, columnSums}
-use Rattle.report.proofs.Used.{unused-none}
+use Rattle.report.proofs.MetChains.{unused-none}
 
 -- a count, a count of what passes another test too, and two sums, as sums of what passes the test
 one-of : (own : Bool) → oneIf own ≡ cond own 1 0

@@ -39,6 +39,18 @@ count-one n h = rw (decimal-one n h)
 pub count-more : (n : ℕ) → n < 2 ^ 64 → 10 ≤ n → length (decimal n) ≡ suc (length (decimal (n / 10)))
 count-more n fits h = rw (decimal-more n fits h, length-append) (omega arith)
 
+-- and of more than three
+pub count-thousand : (n : ℕ) → n < 2 ^ 64 → 1000 ≤ n → length (decimal n) ≡ length (decimal (n / 1000)) + 3
+count-thousand n fits h =
+    let thrice : n / 10 / 10 / 10 ≡ n / 1000 = omega arith in
+    omega (
+      arith,
+      count-more n fits (omega arith),
+      count-more (n / 10) (omega arith) (omega arith),
+      count-more (n / 10 / 10) (omega arith) (omega arith),
+      ap (λ (m : ℕ). length (decimal m)) thrice,
+    )
+
 -- a number has a digit
 pub count-some : (n : ℕ) → n < 2 ^ 64 → 1 ≤ length (decimal n)
 count-some n fits =
@@ -102,7 +114,7 @@ module _ {number at : ℕ} {out₀ : List ℕ} where
   stored-start fits e =
       record { tail = []; whole = sym (append-nil (decimal number)); counted = e; fits = fits; stored = refl }
 
-  pub stored-next : (left : ℕ) {rest : ℕ} {out : List ℕ} → 0 < left → Stored number at out₀ left rest out
+  stored-next : (left : ℕ) {rest : ℕ} {out : List ℕ} → 0 < left → Stored number at out₀ left rest out
       → Stored number at out₀ (left - 1) (rest / 10) (set out (at + left) (digit (rest % 10)))
   stored-next zero some s = let z : ⊥ = omega arith in absurd z
   stored-next (suc left) {rest} some s =
@@ -118,11 +130,34 @@ module _ {number at : ℕ} {out₀ : List ℕ} where
             (set-sets (s .tail) out₀ (suc (at + suc left)) (at + suc left) (digit (rest % 10)) (omega arith));
       })
 
-  pub stored-last : (left : ℕ) {rest : ℕ} {out : List ℕ} → left ≡ 0 → Stored number at out₀ left rest out
-      → set out at (digit (rest % 10)) ≡ sets out₀ at (decimal number)
-  stored-last (suc left) none s = let z : ⊥ = omega arith in absurd z
-  stored-last zero {rest} none s =
-      let small = one-small rest (s .fits) (s .counted) in
-      let same : rest % 10 ≡ rest = omega arith in
-      rw (same, s .stored, s .whole, decimal-one rest small, add-one)
+  -- two digits at once
+  pub stored-pair : (left : ℕ) {rest : ℕ} {out : List ℕ} → 1 < left → Stored number at out₀ left rest out
+      → Stored number at out₀ (left - 2) (rest / 100) (set (set out (at + left) (digit (rest % 100 % 10))) (at + left - 1) (digit (rest % 100 / 10)))
+  stored-pair left {rest} some s =
+      let below : left - 2 ≡ left - 1 - 1 = omega arith in
+      let place : at + left - 1 ≡ at + (left - 1) = omega arith in
+      let fewer : rest / 100 ≡ rest / 10 / 10 = omega arith in
+      let last : rest % 100 % 10 ≡ rest % 10 = omega arith in
+      let before : rest % 100 / 10 ≡ rest / 10 % 10 = omega arith in
+      rw (below, place, fewer, last, before) (stored-next (left - 1) (omega arith) (stored-next left (omega arith) s))
+
+  -- at the first digit, the rest is that digit
+  pub rest-first : {left rest : ℕ} {out : List ℕ} → left ≡ 0 → Stored number at out₀ left rest out → rest < 10
+  rest-first {rest = rest} none s = one-small rest (s .fits) (omega (arith, s .counted))
+
+  pub stored-first : (left : ℕ) {rest : ℕ} {out : List ℕ} → left ≡ 0 → Stored number at out₀ left rest out
+      → set out at (digit rest) ≡ sets out₀ at (decimal number)
+  stored-first (suc left) none s = let z : ⊥ = omega arith in absurd z
+  stored-first zero {rest} none s =
+      rw (s .stored, s .whole, decimal-one rest (rest-first none s), add-one)
       (set-sets (s .tail) out₀ (suc at) at (digit rest) (omega arith))
+
+  -- at the second, the rest is the first two
+  pub rest-two : {left rest : ℕ} {out : List ℕ} → left ≡ 1 → Stored number at out₀ left rest out → rest / 10 < 10
+  rest-two {left} one s = rest-first (omega arith) (stored-next left (omega arith) s)
+
+  pub stored-two : (left : ℕ) {rest : ℕ} {out : List ℕ} → left ≡ 1 → Stored number at out₀ left rest out
+      → set (set out (at + 1) (digit (rest % 10))) at (digit (rest / 10)) ≡ sets out₀ at (decimal number)
+  stored-two left one s =
+      let place : at + 1 ≡ at + left = omega arith in
+      rw place (stored-first (left - 1) (omega arith) (stored-next left (omega arith) s))

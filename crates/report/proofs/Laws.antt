@@ -1,4 +1,5 @@
--- The laws of a sheet, for the crates above. Assumes nothing.
+-- The laws of a sheet, for the crates above, and the law of its table: after the first k elements it holds for every chain what the
+-- walk of the chain's statement holds (`table-holds`). Assumes nothing.
 use Prim.Native.Nat.{ℕ, zero, suc, _+_, _≤_}
 use native.Mathlib.Nat.{zero-add}
 use native.Mathlib.Omega.{arith}
@@ -20,6 +21,7 @@ pub use Rattle.report.proofs.Columns.{class-total-of-lines}
 pub use Rattle.report.proofs.LastLine.{sheet-last-line}
 pub use Rattle.report.proofs.Lines.{sheet-fits, refused-fits}
 pub use Rattle.report.proofs.Stores.{Front, front-of}
+pub use Rattle.report.proofs.TableWalk.{table-holds}
 
 -- what the answer for a text says: its number is 0
 answer-numbers : (text : List ℕ) (room : ℕ) (answer : Printed) → answer ≡ answerFor text room

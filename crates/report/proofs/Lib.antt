@@ -3,8 +3,16 @@
 mod Stores
 -- a number's digits
 mod Decimals
--- used chains
-mod Used
+-- the words of the index
+mod IndexWords
+-- chains that are met
+mod MetChains
+-- the table after the first elements
+mod TableWalk
+-- the lines of the index put one by one
+mod RowLoop
+-- the text of a sheet by its table
+mod TableLines
 -- the columns of a sheet
 mod Columns
 -- lines and their lengths

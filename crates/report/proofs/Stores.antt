@@ -1,4 +1,4 @@
--- Bytes stored one after the other. Assumes nothing.
+-- Bytes and words stored one after the other. Assumes nothing.
 use Prim.Native.Nat.{ℕ, suc, _+_, _≤_, _<_}
 use native.Mathlib.Nat.{add-zero, suc-add, add-suc}
 use native.Mathlib.Omega.{arith}
@@ -11,6 +11,14 @@ use lib.Seq.{sets, sets-eq, length-sets, set-comm, take-append-seam}
 pub sets-append : (s t out : List ℕ) (i : ℕ) → sets out i (s ++ t) ≡ sets (sets out i s) (i + length s) t
 sets-append [] t out i = rw add-zero
 sets-append (b ∷ s) t out i = rw (add-suc, ← suc-add) (sets-append s t (set out i b) (suc i))
+
+-- four words, one by one
+pub four-stored : (out : List ℕ) (i a b c d : ℕ) → set (set (set (set out i a) (i + 1) b) (i + 2) c) (i + 3) d ≡ sets out i (a ∷ b ∷ c ∷ d ∷ [])
+four-stored out i a b c d =
+    let one : i + 1 ≡ suc i = omega arith in
+    let two : i + 2 ≡ suc (suc i) = omega arith in
+    let three : i + 3 ≡ suc (suc (suc i)) = omega arith in
+    rw (one, two, three)
 
 -- a byte before what is stored
 pub set-sets : (t out : List ℕ) (i j b : ℕ) → j < i → set (sets out i t) j b ≡ sets (set out j b) i t

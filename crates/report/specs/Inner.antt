@@ -1,2 +1,4 @@
 -- What inner functions require and promise.
+pub mod Index
+pub mod Table
 pub mod Steps

@@ -1,8 +1,9 @@
 // The text of a statement sheet as bytes, and of a refusal (document 01, "The file": what the program prints).
-mod chains;
+mod index;
 mod printing;
 mod refusals;
 mod sheets;
+mod table;
 mod text;
 
 pub use printing::Printed;

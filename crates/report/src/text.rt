@@ -20,20 +20,26 @@ pub fn put_bytes(bytes: &[u8], out: &mut [u8], at: usize) -> usize
     at + i
 }
 
-// How many digits a number has.
+// How many digits a number has, three at a time.
 fn digit_count(number: u64) -> usize
     ensures { λ r. ⌜ r ≡ length (decimal number) ⌝ }
 {
     let mut count = 1;
     let mut rest = number;
-    while rest > 9 {
-        count += 1;
-        rest /= 10;
+    while rest > 999 {
+        count += 3;
+        rest /= 1000;
+    }
+    if rest > 99 {
+        return count + 2;
+    }
+    if rest > 9 {
+        return count + 1;
     }
     count
 }
 
-// Puts a number in decimal; its digits are stored from the last to the first.
+// Puts a number in decimal; its digits are stored from the last to the first, two a turn.
 fn put_number(number: u64, out: &mut [u8], at: usize) -> usize
     requires { ⌜ at + length (decimal number) ≤ length (now out) ⌝ }
     ensures { λ r. ⌜ r ≡ at + length (decimal number) ⌝ }
@@ -42,12 +48,19 @@ fn put_number(number: u64, out: &mut [u8], at: usize) -> usize
     let count = digit_count(number);
     let mut left = count - 1;
     let mut rest = number;
-    while left > 0 {
-        out[at + left] = b'0' + (rest % 10) as u8;
-        rest /= 10;
-        left -= 1;
+    while left > 1 {
+        let pair = rest % 100;
+        out[at + left] = b'0' + (pair % 10) as u8;
+        out[at + left - 1] = b'0' + (pair / 10) as u8;
+        rest /= 100;
+        left -= 2;
     }
-    out[at] = b'0' + (rest % 10) as u8;
+    if left == 1 {
+        out[at + 1] = b'0' + (rest % 10) as u8;
+        out[at] = b'0' + (rest / 10) as u8;
+        return at + count;
+    }
+    out[at] = b'0' + rest as u8;
     at + count
 }
 

@@ -1,4 +1,4 @@
--- Elements of several chains, for the walk of a statement and of the class total. Assumes nothing.
+-- Elements of several chains, for the walks of a statement and of the class total. Assumes nothing.
 use mathlib.Core.Bool.{Bool}
 use Prim.Native.Nat.{ℕ}
 use Rattle.book_words.specs.Measures.{between}

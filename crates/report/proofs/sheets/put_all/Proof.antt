@@ -4,14 +4,14 @@ use mathlib.Core.Path.{_≡_, _∙_, ap}
 use borrow.Author.Needs.{needs}
 use lib.ListN.{length}
 use lib.Seq.{length-sets}
-use Rattle.book.specs.ClassTotal.{classTotal}
-use Rattle.report.specs.Sheet.{statementNumbers, allWord, allLine}
+use Rattle.book.specs.Walk.{withTotal}
+use Rattle.report.specs.Sheet.{allWord, allLine}
 use Rattle.report.specs.Text.{wordLine}
 use Rattle.report.proofs.sheets.put_all.Statement.{statement}
 use Rattle.report.proofs.sheets.put_all.Tie as tie
 
-class-total-sound-requires : tie.Need-class-total-sound-requires
-class-total-sound-requires c κs = search needs
+numbers-of-requires : tie.Need-numbers-of-requires
+numbers-of-requires c κs = search needs
 
 slice-aggregate-put-word-line : tie.Need-slice-aggregate-put-word-line
 slice-aggregate-put-word-line c = search needs
@@ -19,14 +19,13 @@ slice-aggregate-put-word-line c = search needs
 slice-aggregate-put-word-line-2 : tie.Need-slice-aggregate-put-word-line-2
 slice-aggregate-put-word-line-2 c = search needs
 
-abbrev start : tie.After-class-total-sound → tie.Start
-start c = c .before .before .before
+abbrev start : tie.After-numbers-of → tie.Start
+start c = c .before .before
 
--- the line is that of the class total
-is-line : (c : tie.After-class-total-sound)
-    → wordLine allWord (statementNumbers (c .class-total-sound .result)) ≡ allLine (classTotal (start c .args .book .now))
+-- the line is that of what is held, with the total
+is-line : (c : tie.After-numbers-of) → wordLine allWord (c .numbers-of .result) ≡ allLine (withTotal (start c .args .held))
 unfolding allLine
-is-line c = ap allLine (c .class-total-sound .ensures)
+is-line c = ap (wordLine allWord) (c .numbers-of .ensures)
 
 put-word-line-requires : tie.Need-put-word-line-requires
 unfolding allWord
@@ -45,7 +44,7 @@ pub put-all-spec : {M : Type 1} → statement M
 put-all-spec =
     tie.close
     (tie.spec
-    class-total-sound-requires
+    numbers-of-requires
     slice-aggregate-put-word-line
     slice-aggregate-put-word-line-2
     put-word-line-requires

@@ -1,54 +1,48 @@
--- `report::sheets::put_lines` meets its contract: at each turn the lines before the chain are stored. Assumes nothing.
-use Prim.Native.Nat.{suc, _-_}
+-- `report::sheets::put_lines` meets its contract: at each turn the lines of the words before are stored. Assumes nothing.
+use Prim.Native.Nat.{_-_, _≤_}
 use native.Mathlib.Omega.{arith}
 use borrow.Author.Needs.{needs}
-use borrow.Author.Tests.{le-leb}
-use lib.Dec.{leb}
-use Rattle.book_words.proofs.Booleans.{and-both}
-use Rattle.book_words.specs.Measures.{mostChains}
-use Rattle.report.proofs.Lines.{next-later, Listed, listed-start, listed-next, listed-kept, listed-room, listed-all}
+use Rattle.report.proofs.RowLoop.{RowsPut, rows-start, rows-kept, rows-room, rows-next, rows-done}
 use Rattle.report.proofs.sheets.put_lines.Statement.{statement}
 use Rattle.report.proofs.sheets.put_lines.Tie as tie
 
 abbrev Inv-loop : tie.InvT-loop
-Inv-loop book out₀ start at₀ chain₀ out at chain = Listed book out₀ start chain at out
+Inv-loop index slots used out₀ start at₀ row₀ out at row = (row ≤ used) × RowsPut index slots out₀ start row at out
 
 abbrev μ-loop : tie.MeasureT-loop
-μ-loop book out₀ start at₀ chain₀ out at chain = suc mostChains - chain
-
-next-used-requires : tie.Need-next-used-requires Inv-loop μ-loop
-next-used-requires c κs = search needs
+μ-loop index slots used out₀ start at₀ row₀ out at row = used - row
 
 loop-holds : tie.Need-loop-holds Inv-loop μ-loop
-loop-holds c = listed-start _ (c .next-used .ensures)
+loop-holds c = (omega arith, rows-start)
 
-put-chain-requires : tie.Need-put-chain-requires Inv-loop μ-loop
-put-chain-requires c κs =
-    let start = c .before .before .before .before .before .before in
-    let head = c .before .before .loop in
-    let last = c .before .loop-test .taken in
-    let known = and-both (leb 1 (head .chain)) (leb (head .chain) mostChains) (le-leb _ _ (head .inv .some)) (le-leb _ _ last) in
-    (start .pre .0, (known, listed-room _ (head .inv) last (start .pre .1)))
+mul-put-row : tie.Need-mul-put-row Inv-loop μ-loop
+mul-put-row c = search needs
 
-next-used-requires-2 : tie.Need-next-used-requires-2 Inv-loop μ-loop
-next-used-requires-2 c κs = search needs
+shared-slice-read-put-row : tie.Need-shared-slice-read-put-row Inv-loop μ-loop
+shared-slice-read-put-row c = search needs
 
--- the turn that ends here
-abbrev turn : tie.After-next-used2 Inv-loop μ-loop → tie.In-loop Inv-loop μ-loop
-turn c = c .before .before .before .before .before
+put-row-requires : tie.Need-put-row-requires Inv-loop μ-loop
+put-row-requires c κs =
+    let turn = c .before .before in
+    let start = turn .before .before .before .before .before in
+    (start .pre .0 .1 _ (turn .loop-test .taken), rows-room (turn .before .loop .inv .1) _ (turn .loop-test .taken) (start .pre .1))
+
+add-row : tie.Need-add-row Inv-loop μ-loop
+add-row c = search needs
 
 loop-less : tie.Need-loop-less Inv-loop μ-loop
-loop-less c = omega (arith, next-later _ (turn c .loop-test .taken) (c .next-used2 .ensures))
+loop-less c = search needs
 
 loop-again : tie.Need-loop-again Inv-loop μ-loop
 loop-again c =
-    listed-next _ (turn c .before .loop .inv) (turn c .loop-test .taken) (c .next-used2 .ensures) (c .before .before .before .put-chain .ensures)
+    let turn = c .before .before .before .before .before in
+    (omega arith, rows-next (turn .before .loop .inv .1) (c .before .before .put-row .ensures))
 
 same-length : tie.Need-same-length Inv-loop μ-loop
-same-length c = listed-kept _ (c .before .loop .inv)
+same-length c = rows-kept (c .before .loop .inv .1)
 
 returns : tie.Need-returns Inv-loop μ-loop
-returns c = listed-all _ (c .before .loop .inv) (c .loop-test .left)
+returns c = rows-done (c .before .loop .inv .1) (c .before .before .before .before .before .args .used) (omega arith)
 
 pub put-lines-spec : {M : Type 1} → statement M
 put-lines-spec =
@@ -56,10 +50,11 @@ put-lines-spec =
     (tie.spec
     Inv-loop
     μ-loop
-    next-used-requires
     loop-holds
-    put-chain-requires
-    next-used-requires-2
+    mul-put-row
+    shared-slice-read-put-row
+    put-row-requires
+    add-row
     loop-less
     loop-again
     same-length

@@ -1,77 +1,64 @@
--- `report::sheets::write_sheet` meets its contract: the heading, the lines and the last line. Assumes nothing.
-use Prim.Native.Nat.{_+_}
+-- `report::sheets::write_sheet` meets its contract: either table has room, and holds nothing yet. Assumes nothing.
 use native.Mathlib.Omega.{arith}
-use mathlib.Core.List.{_++_}
-use mathlib.Core.Path.{_≡_}
 use borrow.Author.Needs.{needs}
-use lib.ListN.{length, length-append}
-use lib.Seq.{sets}
-use Rattle.book.specs.ClassTotal.{classTotal}
-use Rattle.report.specs.Sheet.{heading, chainLines, allLine, sheetText}
-use Rattle.report.proofs.Lines.{sheet-fits}
-use Rattle.report.proofs.Stores.{then-room, then-kept, then-stored, from-front}
+use Rattle.book_words.proofs.SoundTests.{sound-counted}
+use Rattle.report.proofs.TableWalk.{zeros-room, zeros-empty}
 use Rattle.report.proofs.sheets.write_sheet.Statement.{statement}
 use Rattle.report.proofs.sheets.write_sheet.Tie as tie
 
-slice-aggregate-put-bytes : tie.Need-slice-aggregate-put-bytes
-slice-aggregate-put-bytes c = search needs
+shared-slice-read-if1 : tie.Need-shared-slice-read-if1
+shared-slice-read-if1 c =
+    let s = c .before .before .before in
+    omega (arith, sound-counted (s .args .book .now) (s .pre .0))
 
-put-bytes-requires : tie.Need-put-bytes-requires
-put-bytes-requires c κs = omega (arith, c .before .before .before .before .pre .1)
+slice-aggregate-write-with : tie.Need-slice-aggregate-write-with
+slice-aggregate-write-with c = search needs
 
-put-lines-requires : tie.Need-put-lines-requires
-unfolding sheetText heading
-put-lines-requires c κs =
-    let put = c .before .before .before .put-bytes .ensures in
-    let start = c .before .before .before .before .before .before .before .before in
-    let book = start .args .book .now in
-    let fits = sheet-fits book (start .pre .0) in (
-      start .pre .0,
-      then-room heading (chainLines book) (start .args .out .now) 0 (put .1) (put .0)
-          (omega (arith, start .pre .1, fits, length-append (heading ++ chainLines book) (allLine (classTotal book)))),
-    )
+slice-aggregate-write-with-2 : tie.Need-slice-aggregate-write-with-2
+slice-aggregate-write-with-2 c = search needs
 
-abbrev start : tie.After-put-lines → tie.Start
-start c = c .before .before .before .before .before .before .before .before .before
-
--- the heading and the lines are stored
-lined : (c : tie.After-put-lines)
-    → (c .put-lines .result ≡ 0 + length (heading ++ chainLines (start c .args .book .now)))
-    × (c .put-lines .last .1 .0 ≡ sets (start c .args .out .now) 0 (heading ++ chainLines (start c .args .book .now)))
-unfolding heading
-lined c =
-    let put = c .before .before .before .before .put-bytes .ensures in
-    let a = start c .args in
-    then-stored heading (chainLines (a .book .now)) (a .out .now) 0 (put .1) (put .0) (c .put-lines .ensures .1) (c .put-lines .ensures .0)
-
-put-all-requires : tie.Need-put-all-requires
-unfolding sheetText
-put-all-requires c κs =
-    let at = c .before .before .before in
-    let s = start at in
-    let book = s .args .book .now in (
-      s .pre .0,
-      then-room (heading ++ chainLines book) (allLine (classTotal book)) (s .args .out .now) 0 (lined at .1) (lined at .0)
-          (omega (arith, s .pre .1, sheet-fits book (s .pre .0))),
-    )
+write-with-requires : tie.Need-write-with-requires
+write-with-requires c κs =
+    let few = c .before .before .before in
+    let s = few .before .before .before .before in
+    ((s .pre .0, s .pre .1), (zeros-room (s .args .book .now) 32 (omega (arith, few .if1 .taken)), zeros-empty 128))
 
 same-length : tie.Need-same-length
-same-length c =
-    let at = c .before .before .before .before .before .before in
-    let a = start at .args in
-    then-kept (heading ++ chainLines (a .book .now)) (allLine (classTotal (a .book .now))) (a .out .now) 0 (lined at .1) (lined at .0)
-    (c .before .before .put-all .ensures .1)
+same-length c = search needs
 
 returns : tie.Need-returns
-unfolding sheetText
-returns c =
-    let at = c .before .before .before .before .before .before in
-    let a = start at .args in
-    let end = c .before .before .put-all .ensures in
-    from-front
-    (then-stored (heading ++ chainLines (a .book .now)) (allLine (classTotal (a .book .now))) (a .out .now) 0 (lined at .1) (lined at .0) (end .1) (end .0))
+returns c = search needs
+
+slice-aggregate-write-with-3 : tie.Need-slice-aggregate-write-with-3
+slice-aggregate-write-with-3 c = search needs
+
+slice-aggregate-write-with-4 : tie.Need-slice-aggregate-write-with-4
+slice-aggregate-write-with-4 c = search needs
+
+write-with-requires-2 : tie.Need-write-with-requires-2
+write-with-requires-2 c κs =
+    let s = c .before .before .before .before .before .before .before in
+    let ws = s .args .book .now in
+    ((s .pre .0, s .pre .1), (zeros-room ws 256 (omega (arith, sound-counted ws (s .pre .0))), zeros-empty 1024))
+
+same-length-2 : tie.Need-same-length-2
+same-length-2 c = search needs
+
+returns-2 : tie.Need-returns-2
+returns-2 c = search needs
 
 pub write-sheet-spec : {M : Type 1} → statement M
 write-sheet-spec =
     tie.close
-    (tie.spec slice-aggregate-put-bytes put-bytes-requires put-lines-requires put-all-requires same-length returns)
+    (tie.spec
+    shared-slice-read-if1
+    slice-aggregate-write-with
+    slice-aggregate-write-with-2
+    write-with-requires
+    same-length
+    returns
+    slice-aggregate-write-with-3
+    slice-aggregate-write-with-4
+    write-with-requires-2
+    same-length-2
+    returns-2)

@@ -1,9 +1,9 @@
--- `book::statements::waiting_of` meets its contract: the category that was read is the element's. Assumes nothing.
+-- `book::walks::waiting_of` meets its contract: the category that was read is the element's. Assumes nothing.
 use mathlib.Core.Bool.{true, false}
 use borrow.Author.Needs.{needs}
 use Rattle.book.proofs.StatementWalk.{waits-told}
-use Rattle.book.proofs.statements.waiting_of.Statement.{statement}
-use Rattle.book.proofs.statements.waiting_of.Tie as tie
+use Rattle.book.proofs.walks.waiting_of.Statement.{statement}
+use Rattle.book.proofs.walks.waiting_of.Tie as tie
 
 numbered-category-requires : tie.Need-numbered-category-requires
 numbered-category-requires c κs = search needs
