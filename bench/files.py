@@ -4,9 +4,10 @@
     python3 bench/files.py DIRECTORY
 
 example.qm is document 01's example, full.qm a full book with every category
-closed, weighed.qm the same with every passenger weighed. last-element.qm and
-last-closing.qm are the full book refused at its last element and at its last
-closing. The bytes are the same each time.
+closed, weighed.qm the same with every passenger weighed. descending.qm is the
+full book with its chains in descending order, repeated.qm has its elements on
+16 chains. last-element.qm and last-closing.qm are the full book refused at
+its last element and at its last closing. The bytes are the same each time.
 """
 
 import os
@@ -75,6 +76,24 @@ def weighed():
             in enumerate(elements())]
 
 
+def on_chains(chains):
+    """The same elements on other chains."""
+    return [(category, chain, *rest)
+            for chain, (category, _, *rest) in zip(chains, elements())]
+
+
+def descending():
+    """The same chains, each element's lower than the one before it."""
+    return on_chains(sorted((chain for _, chain, *_ in elements()),
+                            reverse=True))
+
+
+def repeated():
+    """Each of 16 chains is met 16 times, in every category once."""
+    return on_chains([1 + 3907 * ((number + number // 16) % 16) % 10_000
+                      for number in range(256)])
+
+
 def last_element():
     """The chain of the last element is 10,001: refused with 3."""
     listed = elements()
@@ -98,6 +117,8 @@ def main():
         ("example", EXAMPLE),
         ("full", file_of(categories(), entries(), elements())),
         ("weighed", file_of(categories(), entries(), weighed())),
+        ("descending", file_of(categories(), entries(), descending())),
+        ("repeated", file_of(categories(), entries(), repeated())),
         ("last-element", file_of(categories(), entries(), last_element())),
         ("last-closing", file_of(categories(), entries(), last_closing())),
     ):

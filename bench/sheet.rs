@@ -451,24 +451,42 @@ fn load(file: &[u8]) -> Result<Book, Stopped> {
     Ok(book)
 }
 
-// The heading, one line per used chain, ascending, and the class total.
+// What is counted and added over some elements.
+#[derive(Default)]
+struct Sums {
+    elements: u64,
+    waiting: u64,
+    shares: Amounts,
+}
+
+impl Sums {
+    fn add(&mut self, other: &Sums) {
+        self.elements += other.elements;
+        self.waiting += other.waiting;
+        self.shares[0] += other.shares[0];
+        self.shares[1] += other.shares[1];
+    }
+}
+
+// The heading, one line per used chain, ascending, and the class total. One walk over the elements, ordered by their
+// chains, adds up each line, and the lines add up to the total.
 fn print(book: &Book, out: &mut Vec<u8>) -> io::Result<()> {
     writeln!(out, "chain elements waiting operation provision total")?;
     let mut order: Vec<&Element> = book.elements.iter().collect();
     order.sort_unstable_by_key(|element| element.chain);
-    let (mut all_waiting, mut all_operation, mut all_provision) = (0, 0, 0);
+    let mut all = Sums::default();
     for elements in order.chunk_by(|a, b| a.chain == b.chain) {
-        let waiting = elements.iter().filter(|element| book.waits(element)).count();
-        let operation: u64 = elements.iter().map(|element| element.shares[0]).sum();
-        let provision: u64 = elements.iter().map(|element| element.shares[1]).sum();
-        let total = operation + provision;
-        writeln!(out, "{} {} {waiting} {operation} {provision} {total}", elements[0].chain, elements.len())?;
-        all_waiting += waiting;
-        all_operation += operation;
-        all_provision += provision;
+        let mut sums = Sums::default();
+        for element in elements {
+            sums.add(&Sums { elements: 1, waiting: book.waits(element).into(), shares: element.shares });
+        }
+        let chain = elements[0].chain;
+        let total = sums.shares[0] + sums.shares[1];
+        writeln!(out, "{chain} {} {} {} {} {total}", sums.elements, sums.waiting, sums.shares[0], sums.shares[1])?;
+        all.add(&sums);
     }
-    let all_total = all_operation + all_provision;
-    writeln!(out, "all {} {all_waiting} {all_operation} {all_provision} {all_total}", book.elements.len())
+    let total = all.shares[0] + all.shares[1];
+    writeln!(out, "all {} {} {} {} {total}", all.elements, all.waiting, all.shares[0], all.shares[1])
 }
 
 #[inline(never)]

@@ -51,8 +51,13 @@ def changed(record, **fields):
 
 # A full book.
 
+def kind_of(category):
+    """1 freight, 2 passengers, 3 both, 4 freight hub, in turn."""
+    return 1 + (category - 1) % 4
+
+
 def full_categories():
-    return [(1 + number % 4, 1) for number in range(16)]
+    return [(kind_of(number), 1) for number in range(1, 17)]
 
 
 def full_entries():
@@ -66,21 +71,23 @@ def full_entries():
     return entries
 
 
+def element_of(category, chain, number):
+    """An element of a full book's category; others have another number."""
+    kind, turn = kind_of(category), number // 16
+    code = turn % 3
+    if kind == 2 or kind == 3 and turn % 2 == 1:
+        code = 100 + 3 * number
+    distance = 0 if kind == 4 else 1000 + 7 * number
+    weighed = code >= 100 and category > 8
+    return (category, chain, code, 1 + 7 * number % 300 if weighed else 0,
+            13 + number, distance, 0, 0)
+
+
 def full_elements():
     """Sixteen for each category, of every group and of both sorts where they
     suit it. From category 9 on passengers are weighed."""
-    elements = []
-    for number in range(256):
-        kind, turn = 1 + number % 4, number // 16
-        code = turn % 3
-        if kind == 2 or kind == 3 and turn % 2 == 1:
-            code = 100 + 3 * number
-        distance = 0 if kind == 4 else 1000 + 7 * number
-        weighed = code >= 100 and number % 16 >= 8
-        elements.append((1 + number % 16, 1 + 37 * number, code,
-                         1 + 7 * number % 300 if weighed else 0,
-                         13 + number, distance, 0, 0))
-    return elements
+    return [element_of(1 + number % 16, 1 + 37 * number, number)
+            for number in range(256)]
 
 
 def full_parts():

@@ -19,7 +19,7 @@ sys.path.insert(0, os.path.dirname(os.path.dirname(os.path.abspath(__file__))))
 
 import pack
 from calculation import sheet
-from cases import file_cases, make_cases
+from cases import chain_files, file_cases, make_cases
 from cases.book_writer import BookCases, FARTHEST
 from cases.file_parts import FREIGHT, QUOTE, changed, full_parts
 from cases.file_writer import EXAMPLE, MOST_BYTES, cut_to, file_of
@@ -257,6 +257,15 @@ def compare(data, output, status, complaint=b""):
 def prints_sheet(program, data):
     done = run(program, data)
     compare(data, done.stdout, done.returncode, done.stderr)
+    return done.stdout
+
+
+def prints_lines(program, data):
+    """The same of a file that is loaded, and what its records tell of the
+    lines."""
+    fault = sheet_checks.fault_of(data, prints_sheet(program, data))
+    if fault:
+        raise Differs("not as the file has it: %s" % fault)
 
 
 def prints_sheet_of_pieces(program, data, size):
@@ -288,6 +297,8 @@ def says_that_output_is_closed(program, data):
 def sheets(seed):
     for name, data in all_files(seed):
         yield name, prints_sheet, data
+    for name, data in chain_files.files(random.Random(seed)):
+        yield name, prints_lines, data
     full = file_of(*full_parts())
     longest = cut_to(full, MOST_BYTES)
     for size in (1, 7, 31, 32, 200):

@@ -4,8 +4,9 @@ import random
 
 from calculation.second_loading import second_load
 from calculation.sheet import sheet
-from cases import file_parts
-from cases.file_writer import EXAMPLE, cut_to, file_of, with_header
+from cases import chain_files, file_parts
+from cases.file_writer import (
+    EXAMPLE, cut_to, file_of, table_records, with_header)
 from cases.random_files import changed_byte, changed_header, random_file
 
 SEED = 19
@@ -108,6 +109,51 @@ WRITTEN_OUT = (
      HEADING + b"".join(b"%d 1 0 %d 1 %d\n" % (chain, 257 - chain, 258 - chain)
                         for chain in range(1, 257))
      + b"all 256 0 32896 256 33152\n"),
+    # 255 chains, the last first, and at the end the middle one again.
+    (file_of((), (), [(0, 256 - number, 0, 0, 1000, 1, 0, number)
+                      for number in range(1, 256)]
+             + [(0, 128, 0, 0, 1000, 1, 7, 0)]),
+     HEADING + b"".join(
+         b"128 2 0 7 128 135\n" if chain == 128
+         else b"%d 1 0 0 %d %d\n" % (chain, 256 - chain, 256 - chain)
+         for chain in range(1, 256))
+     + b"all 256 0 7 32640 32647\n"),
+    # 256 elements: on one chain, then on 10,000 and 1 by turns, quotes of 1,
+    # 3 .. 255 and of 2, 4 .. 256. The sum of 128 odd numbers is 128 × 128.
+    (file_of((), (), [(0, 10_000, 0, 0, 1000, 1, number, 1)
+                      for number in range(1, 257)]),
+     HEADING + b"10000 256 0 32896 256 33152\nall 256 0 32896 256 33152\n"),
+    (file_of((), (), [(0, (1, 10_000)[number % 2], 0, 0, 1000, 1, number, 1)
+                      for number in range(1, 257)]),
+     HEADING + b"1 128 0 16512 128 16640\n10000 128 0 16384 128 16512\n"
+     b"all 256 0 32896 256 33152\n"),
+    # Three chains, each met three times: one element is closed, one quoted,
+    # one waits, in another order on each. 9 over 1, 1, 1 is 3 each.
+    (file_of([(1, 0), (1, 1)], [(1, 0, 1, 50, 50), (2, 0, 1, 9, 0)],
+             [(1, 6, 0, 0, 1, 1, 0, 0), (2, 5, 0, 0, 1, 1, 0, 0),
+              (0, 7, 0, 0, 1000, 1, 70, 700), (2, 6, 0, 0, 1, 1, 0, 0),
+              (0, 5, 0, 0, 1000, 1, 50, 500), (1, 7, 0, 0, 1, 1, 0, 0),
+              (0, 6, 0, 0, 1000, 1, 60, 600), (1, 5, 0, 0, 1, 1, 0, 0),
+              (2, 7, 0, 0, 1, 1, 0, 0)]),
+     HEADING + b"5 3 1 53 500 553\n6 3 1 63 600 663\n7 3 1 73 700 773\n"
+     b"all 9 3 189 1800 1989\n"),
+    # Quotes alone on chain 3, between chains that wait.
+    (file_of([(1, 0)], [(1, 0, 1, 9, 9)],
+             [(1, 4, 0, 0, 1, 1, 0, 0), (0, 3, 0, 0, 1000, 1, 5, 6),
+              (1, 2, 0, 0, 1, 1, 0, 0), (0, 3, 0, 0, 1000, 1, 7, 8),
+              (1, 4, 0, 0, 1, 1, 0, 0)]),
+     HEADING + b"2 1 1 0 0 0\n3 2 0 12 14 26\n4 2 2 0 0 0\n"
+     b"all 5 3 12 14 26\n"),
+    # 10^18 less 2 and 10^18 over 256 equal weights, on two chains by turns:
+    # 3906250000000000 each, but 1 less for the last two in operation.
+    (file_of([(1, 1)], [(1, 0, 10 ** 9, 10 ** 9 - 1, 10 ** 9),
+                        (1, 0, 10 ** 9 - 2, 1, 0)],
+             [(1, (8, 9)[number % 2], 0, 0, 1, 1, 0, 0)
+              for number in range(256)]),
+     HEADING + b"8 128 0 499999999999999999 500000000000000000 "
+     b"999999999999999999\n9 128 0 499999999999999999 500000000000000000 "
+     b"999999999999999999\nall 256 0 999999999999999998 1000000000000000000 "
+     b"1999999999999999998\n"),
     # The limit: 4 × 10^17 and 6 × 10^17 are posted, the rest of 10^18 is
     # quoted.
     (file_of([(1, 1)], [(1, 0, 10 ** 9, 4 * 10 ** 8, 6 * 10 ** 8)],
@@ -129,7 +175,8 @@ WRITTEN_OUT = (
 
 def written_out(check):
     for data, printed in WRITTEN_OUT:
-        check(sheet(data) == printed, "sheet", printed, sheet(data))
+        for own in (sheet(data), second_sheet(data)):
+            check(own == printed, "sheet", printed, own)
 
 
 def second_sheet(data):
@@ -156,8 +203,7 @@ def second_sheet(data):
 
 def by_both_ways(check):
     rng = random.Random(SEED)
-    files = [file_of(*file_parts.full_parts()), file_parts.WHOLE,
-             *[data for data, _ in WRITTEN_OUT]]
+    files = [file_of(*file_parts.full_parts()), file_parts.WHOLE]
     for most in ((2, 3, 5), (4, 8, 12), (9, 20, 40)) * 20:
         data = random_file(rng, most)
         files += [data, changed_byte(data, rng), changed_header(data, rng)]
@@ -168,6 +214,77 @@ def by_both_ways(check):
     check(20 < refused < len(files) - 60, "sheets", refused)
 
 
+# What a sheet shows of the records of its file.
+
+def waits_in(data, category):
+    """Whether elements of this category wait; quotes never do."""
+    return category > 0 and table_records(data, 1)[category - 1][1] == 0
+
+
+def counts_of(data):
+    """The used chains, ascending: each with its elements, and those that
+    wait."""
+    categories = {}
+    for category, chain, *_ in table_records(data, 3):
+        categories.setdefault(chain, []).append(category)
+    return [[chain, len(found), sum(waits_in(data, category)
+                                    for category in found)]
+            for chain, found in sorted(categories.items())]
+
+
+def emissions_of(data):
+    """The operation and the provision that elements get: what was posted to
+    closed categories, and the quotes, none of which is rounded."""
+    posted = [(quantity * operation, quantity * provision)
+              for category, _, quantity, operation, provision
+              in table_records(data, 2) if not waits_in(data, category)]
+    quoted = [(mass * distance * operation // 1000,
+               mass * distance * provision // 1000)
+              for category, *_, mass, distance, operation, provision
+              in table_records(data, 3) if category == 0]
+    return [sum(amounts) for amounts in zip((0, 0), *posted, *quoted)]
+
+
+def fault_of(data, printed):
+    """What is wrong with the sheet of a file that is loaded, None where
+    nothing is."""
+    heading, *lines = printed.splitlines(True)
+    if heading != HEADING:
+        return "no heading"
+    rows = [[int(cell) for cell in line.split()] for line in lines[:-1]]
+    if [row[:3] for row in rows] != counts_of(data):
+        return "a chain, its elements or its waiting"
+    if any(row[3] + row[4] != row[5] for row in rows):
+        return "a total"
+    sums = [sum(column) for column in zip(*rows)][1:]
+    if sums[2:4] != emissions_of(data):
+        return "the emissions"
+    if lines[-1] != b"all %d %d %d %d %d\n" % tuple(sums):
+        return "the class total"
+    return None
+
+
+def with_faults(printed):
+    """The same sheet with its lines in another order, without one, with one
+    twice, without the class total or with another."""
+    heading, *lines, last = printed.splitlines(True)
+    for others in (lines[::-1] + [last], lines[1:] + [last],
+                   lines[:1] + lines + [last], lines,
+                   lines + [last.replace(b"all ", b"all 1")]):
+        yield b"".join([heading, *others])
+
+
+def many_chains(check):
+    """Every number of chains, every order and every sort of elements."""
+    for name, data in chain_files.files(random.Random(SEED))[::19]:
+        own = sheet(data)
+        check(fault_of(data, own) is None, name, fault_of(data, own))
+        check(own == second_sheet(data), name, own)
+        for other in with_faults(own):
+            check(other == own or fault_of(data, other), name, other)
+
+
 def run(check):
     written_out(check)
     by_both_ways(check)
+    many_chains(check)
