@@ -11,7 +11,7 @@ use borrow.Author.Tests.{eq-eqb}
 use lib.Dec.{eqb}
 use lib.ListN.{length, drop, getD, drop-of-length-le}
 use lib.Seq.{drop-cons}
-use Rattle.apportion.specs.Grounds.{accepted, Ground, firstOf, groundsOf}
+use Rattle.apportion.specs.Grounds.{accepted, Ground, firstOf, groundsOf, checkedJustAfter}
 use Rattle.apportion.specs.Inner.Grounds.{groundsBefore}
 
 pub or-none : (a b : Bool) → a || b ≡ false → (a ≡ false) × (b ≡ false)
@@ -54,6 +54,16 @@ refused-old (suc n) new old ne = refl
 -- where the first ground holds, it gives its number
 pub stopped : {holds : Bool} (n rest : ℕ) → holds ≡ true → cond holds n rest ≡ n
 stopped n rest e = rw e
+
+-- one more ground decides nothing where it does not hold, wherever it is checked
+pub checked-in-vain : (number : ℕ) (new : Ground) (gs : List Ground) → new .1 ≡ false → firstOf (checkedJustAfter number new gs) ≡ firstOf gs
+checked-in-vain number new [] e = rw e
+checked-in-vain number new (g ∷ gs) e = go (eqb number (g .0)) (checked-in-vain number new gs e)
+  where
+    go : (here : Bool) → firstOf (checkedJustAfter number new gs) ≡ firstOf gs
+        → firstOf (cond here (g ∷ new ∷ gs) (g ∷ checkedJustAfter number new gs)) ≡ firstOf (g ∷ gs)
+    go true later = rw e
+    go false later = ap (λ (n : ℕ). cond (g .1) (g .0) n) later
 
 -- the condition of the ground of this number; false where there is none
 abbrev pub conditionOf : ℕ → List Ground → Bool

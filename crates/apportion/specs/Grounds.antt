@@ -2,6 +2,7 @@
 use mathlib.Core.Bool.{Bool, cond}
 use mathlib.Core.List.{List, [], _∷_}
 use Prim.Native.Nat.{ℕ, zero, suc}
+use lib.Dec.{eqb}
 
 -- a refusal number and its condition
 abbrev pub Ground : Type 0
@@ -17,6 +18,11 @@ abbrev pub groundsOf : List ℕ → List Bool → List Ground
 groundsOf [] conditions = []
 groundsOf (n ∷ numbers) [] = []
 groundsOf (n ∷ numbers) (c ∷ conditions) = (n, c) ∷ groundsOf numbers conditions
+
+-- these grounds and one more, checked just after that of this number; last where there is none of it
+abbrev pub checkedJustAfter : ℕ → Ground → List Ground → List Ground
+checkedJustAfter number new [] = new ∷ []
+checkedJustAfter number new (g ∷ gs) = cond (eqb number (g .0)) (g ∷ new ∷ gs) (g ∷ checkedJustAfter number new gs)
 
 -- what an accepted call (number 0) leaves, and what a refused one leaves
 abbrev pub accepted : {A : Type 0} → ℕ → A → A → A

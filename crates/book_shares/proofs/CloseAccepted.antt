@@ -1,5 +1,5 @@
 -- What holds where a closing is accepted: none of its grounds does, and every pool can be divided. Assumes nothing.
-use mathlib.Core.Bool.{true, false, _||_, _&&_, and-true, Bool, cond}
+use mathlib.Core.Bool.{true, false, _||_, _&&_, and-true, Bool}
 use mathlib.Core.List.{List, _∷_, []}
 use mathlib.Core.Logic.{⊎-elim, inl, inr, _⊎_}
 use mathlib.Core.Path.{_≡_, refl, _∙_}
@@ -9,8 +9,6 @@ use native.Mathlib.Omega.{arith}
 use lib.Dec.{ltb, eqb}
 use borrow.Author.Tests.{not-false, eq-eqb, ltb-false}
 use Rattle.apportion.specs.Dividing.{Divisible, mostPool}
-use Rattle.apportion.specs.Grounds.{firstOf}
-use Rattle.apportion.specs.Inner.Grounds.{groundsBefore}
 use Rattle.apportion.specs.Places.{at}
 use Rattle.book_words.specs.Book.{categories, isClosed}
 use Rattle.book_words.specs.Measures.{between}
@@ -26,7 +24,7 @@ use Rattle.book_shares.specs.Inner.Steps.{DivisibleOver, poolsBy}
 use Rattle.book_shares.specs.Inner.Members.{members, activityAt, massAt}
 use Rattle.book_shares.specs.Shares.{weights, freightPart, dividedAll, passengerPart}
 use Rattle.book_shares.specs.Sums.{activityAmong, passengersByMass, pool}
-use Rattle.apportion.proofs.Grounds.{none-holds, decided-from, or-none}
+use Rattle.apportion.proofs.Grounds.{none-holds, or-none}
 use Rattle.apportion.proofs.Laws.{share-of-zero}
 use Rattle.book_words.proofs.Ranges.{above-zero}
 use Rattle.book_shares.proofs.SumBounds.{mass-most, pool-limited}
@@ -142,18 +140,6 @@ module _ (ws : List ℕ) (category : ℕ) where
             divisible-over (Group 1) (pool ws category 1 side) (divisions k .chilled-divisible) (pool-limited ws (k .fine) category 1 side),
             divisible-over (Group 2) (pool ws category 2 side) (divisions k .frozen-divisible) (pool-limited ws (k .fine) category 2 side),
           )
-
-  -- the condition of ground 9
-  abbrev pub withoutElements : Bool
-  withoutElements = nothingToDivideBy ws category || poolWithoutElements ws category 1 || poolWithoutElements ws category 2
-
-  -- where none of the grounds before 9 holds, 9 decides
-  pub nine-left : firstOf (groundsBefore 9 (closeGrounds ws category)) ≡ 0 → (sound ws ≡ true) × (closeRefusal ws category ≡ cond withoutElements 9 0)
-  unfolding closeRefusal
-  nine-left e = (
-    not-false (sound ws) (none-holds (groundsBefore 9 (closeGrounds ws category)) refl e 1),
-    decided-from 9 (closeGrounds ws category) refl e,
-  )
 
   module _ (places : List ℕ) (are : places ≡ members ws category) where
     pub served-at : ToDivideBy ws category → 0 < activityAt ws places Freight + massAt ws places

@@ -52,7 +52,7 @@ module _ (ws : List ℕ) (place a b : ℕ) where
       ∙ length-set ws (elementStart place + operationShareWord) a
   chosen-length false = refl
 
-  chosen-word : (t : Bool) (k : ℕ)
+  pub chosen-word : (t : Bool) (k : ℕ)
       → (t ≡ true → (k ≡ elementStart place + operationShareWord → ⊥) × (k ≡ elementStart place + provisionShareWord → ⊥))
       → at (chosen t) k ≡ at ws k
   chosen-word true k ne =
@@ -61,12 +61,12 @@ module _ (ws : List ℕ) (place a b : ℕ) where
   chosen-word false k ne = refl
 
   -- the other elements are as before
-  chosen-element : (t : Bool) (p : ℕ) → (t ≡ true → p ≡ place → ⊥) → elementAt (chosen t) p ≡ elementAt ws p
+  pub chosen-element : (t : Bool) (p : ℕ) → (t ≡ true → p ≡ place → ⊥) → elementAt (chosen t) p ≡ elementAt ws p
   chosen-element t p ne =
       element-same ws (chosen t) p (λ f i. chosen-word t (elementStart p + f) (λ e. let apart = ne e in omega (arith, ltb-true)))
 
   -- this one has these shares
-  chosen-here : bookLength ≤ length ws → place < mostElements → elementAt (chosen true) place ≡ withShares (elementAt ws place) a b
+  pub chosen-here : bookLength ≤ length ws → place < mostElements → elementAt (chosen true) place ≡ withShares (elementAt ws place) a b
   chosen-here long room =
       let start = elementStart place in
       let word : (f : ℕ) → eqb f operationShareWord ≡ false → eqb f provisionShareWord ≡ false → at (chosen true) (start + f) ≡ at ws (start + f) =

@@ -25,6 +25,12 @@ pub mod CloseAccepted
 pub mod PartsAdded
 -- shares written at the places of a category's elements
 pub mod ShareWrites
+-- the words of pairs
+pub mod Pairs
+-- the pairs of a book, as shares are written in it
+pub mod BookPairs
+-- a closing that is worked out beside the book
+pub mod WorkedOut
 -- a closing leaves a sound book sound
 pub mod CloseKeepsSound
 -- the laws for the crates above

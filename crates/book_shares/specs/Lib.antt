@@ -2,5 +2,6 @@
 pub mod Sums
 pub mod Shares
 pub mod Closing
+pub mod Previews
 pub mod Intensities
 pub mod Inner

@@ -1,20 +1,17 @@
 // Close: the pools of a category are handed out.
 ghost use mathlib.Core.Bool.{true, _||_, _&&_};
 ghost use mathlib.Core.Path.{_≡_};
-ghost use Prim.Native.Nat.{ℕ, _≤_, _<_};
+ghost use Prim.Native.Nat.{_≤_};
 ghost use lib.Dec.{ltb, eqb};
 ghost use lib.ListN.{length};
-ghost use Rattle.apportion.specs.Grounds.{firstOf};
-ghost use Rattle.apportion.specs.Inner.Grounds.{groundsBefore};
-ghost use Rattle.apportion.specs.Places.{at};
-ghost use Rattle.book_words.specs.Book.{bookLength, mostCategories, mostElements, closeCategory, putShares};
+ghost use Rattle.book_words.specs.Book.{bookLength, mostCategories, closeCategory};
 ghost use Rattle.book_words.specs.Soundness.{sound};
 ghost use Rattle.book_words.specs.declared.totals.Side.the-variants.{Operation, Provision};
 ghost use Rattle.book_shares.specs.declared.weights.Recipients.the-variants.{Group};
-ghost use Rattle.book_shares.specs.Closing.{closeRefusal, closeGrounds, closeBook, nothingToDivideBy, poolWithoutElements, closeWith};
-ghost use Rattle.book_shares.specs.Inner.Steps.{listsBySide, handOutTo};
-ghost use Rattle.book_shares.specs.Inner.Members.{Listed, members as membersOf, activityAt, atPlaces};
-ghost use Rattle.book_shares.specs.Shares.{closingShare};
+ghost use Rattle.book_shares.specs.Closing.{closeRefusal, closeBook, nothingToDivideBy, poolWithoutElements};
+ghost use Rattle.book_shares.specs.Inner.Steps.{ToWorkOut, workedOut};
+ghost use Rattle.book_shares.specs.Inner.Members.{Listed, members as membersOf, activityAt};
+use crate::handing::hand_out_to;
 use crate::listing::list_members;
 use crate::pools;
 use crate::sharing::set_shares;
@@ -25,8 +22,10 @@ use book_words::CATEGORY_LIST;
 use book_words::CLOSED_WORD;
 use book_words::ELEMENT_LIST;
 use book_words::OPERATION_SHARE_WORD;
-use book_words::PROVISION_SHARE_WORD;
 use book_words::Side;
+
+// The first share word of the book.
+const FIRST_SHARE: usize = ELEMENT_LIST.first + OPERATION_SHARE_WORD;
 
 // Closes a category of a book that is known to be sound, and answers the refusal number.
 pub fn close_sound(book: &mut [u64], category: u64) -> u64
@@ -34,39 +33,84 @@ pub fn close_sound(book: &mut [u64], category: u64) -> u64
     ensures { λ r. ⌜ r ≡ closeRefusal (now (book .entry)) category ⌝ }
     ensures { λ _. ⌜ now (book .exit) ≡ closeBook (now (book .entry)) category ⌝ }
 {
-    let refusal = refusal_number(book, category);
+    let mut places = [0usize; 256];
+    let count = list_members(book, category, &mut places);
+    let mut operation = [0u64; 256];
+    let mut provision = [0u64; 256];
+    close_members(
+        book,
+        category,
+        &places[..count],
+        &mut operation[..count],
+        &mut provision[..count],
+    )
+}
+
+// The same with the category's elements listed, and slices that are 0 for their shares.
+fn close_members(
+    book: &mut [u64],
+    category: u64,
+    members: &[usize],
+    operation: &mut [u64],
+    provision: &mut [u64],
+) -> u64
+    requires { ⌜ ToWorkOut (now book) category (now members) (now operation) (now provision) ⌝ }
+    ensures { λ r. ⌜ r ≡ closeRefusal (now (book .entry)) category ⌝ }
+    ensures { λ _. ⌜ now (book .exit) ≡ closeBook (now (book .entry)) category ⌝ }
+    ensures { λ _. ⌜ now (operation .exit) ≡ workedOut (now (book .entry)) category (now (members .entry)) Operation (now (operation .entry)) ⌝ }
+    ensures { λ _. ⌜ now (provision .exit) ≡ workedOut (now (book .entry)) category (now (members .entry)) Provision (now (provision .entry)) ⌝ }
+{
+    let refusal = work_out(book, category, members, operation, provision);
     if refusal != 0 {
         return refusal;
     }
-    let mut places = [0usize; 256];
-    let count = list_members(book, category, &mut places);
-    close_members(book, category, &places[..count])
+    hand_out_to(
+        book,
+        FIRST_SHARE,
+        ELEMENT_LIST.width,
+        members,
+        operation,
+        provision,
+    );
+    set_closed(book, category);
+    0
 }
 
-// The number of the first ground before 9 that holds, or 0.
-fn refusal_number(book: &[u64], category: u64) -> u64
+// Works out a closing beside the book: answers its refusal number, and where that is 0 writes the shares of the listed elements into
+// slices that are 0.
+pub fn work_out(
+    book: &[u64],
+    category: u64,
+    members: &[usize],
+    operation: &mut [u64],
+    provision: &mut [u64],
+) -> u64
+    requires { ⌜ ToWorkOut (now book) category (now members) (now operation) (now provision) ⌝ }
+    ensures { λ r. ⌜ r ≡ closeRefusal (now (book .entry)) category ⌝ }
+    ensures { λ _. ⌜ now (operation .exit) ≡ workedOut (now (book .entry)) category (now (members .entry)) Operation (now (operation .entry)) ⌝ }
+    ensures { λ _. ⌜ now (provision .exit) ≡ workedOut (now (book .entry)) category (now (members .entry)) Provision (now (provision .entry)) ⌝ }
+{
+    let refusal = refusal_number(book, category, members);
+    if refusal != 0 {
+        return refusal;
+    }
+    set_shares(book, category, members, Side::Operation, operation);
+    set_shares(book, category, members, Side::Provision, provision);
+    0
+}
+
+// The number of the first ground that holds, or 0.
+fn refusal_number(book: &[u64], category: u64, members: &[usize]) -> u64
     requires { ⌜ sound (now book) ≡ true ⌝ }
-    ensures { λ r. ⌜ r ≡ firstOf (groundsBefore 9 (closeGrounds (now (book .entry)) category)) ⌝ }
+    requires { ⌜ now members ≡ membersOf (now book) category ⌝ }
+    ensures { λ r. ⌜ r ≡ closeRefusal (now (book .entry)) category ⌝ }
 {
     let categories = book[book_words::CATEGORIES];
     let here = book_words::numbered_category(book, category);
     let unnumbered = !((1 <= category) & (category <= categories));
     let closed = here.closed != 0;
-    first_of(&[2, 4], &[unnumbered, closed])
-}
-
-// The same for a category that is there and not closed, with its elements listed.
-fn close_members(book: &mut [u64], category: u64, members: &[usize]) -> u64
-    requires { ⌜ firstOf (groundsBefore 9 (closeGrounds (now book) category)) ≡ 0 ⌝ }
-    requires { ⌜ now members ≡ membersOf (now book) category ⌝ }
-    ensures { λ r. ⌜ r ≡ closeRefusal (now (book .entry)) category ⌝ }
-    ensures { λ _. ⌜ now (book .exit) ≡ closeBook (now (book .entry)) category ⌝ }
-{
-    if lacks_elements(book, category, members) {
-        return 9;
-    }
-    close_with(book, category, members);
-    0
+    let lacking = lacks_elements(book, category, members);
+    first_of(&[2, 4, 9], &[unnumbered, closed, lacking])
 }
 
 // There is nothing to divide A by, or a pool of a group is above 0 and no element can take it.
@@ -105,47 +149,6 @@ fn is_without_elements(
         & (weights::activity_at(book, members, Recipients::Group(group)) == 0)
 }
 
-// Hands out the pools of the category, and closes it.
-fn close_with(book: &mut [u64], category: u64, members: &[usize])
-    requires { ⌜ closeRefusal (now book) category ≡ 0 ⌝ }
-    requires { ⌜ now members ≡ membersOf (now book) category ⌝ }
-    ensures { λ _. ⌜ now (book .exit) ≡ closeWith (now (book .entry)) category (closingShare (now (book .entry)) category) ⌝ }
-{
-    let count = members.len();
-    let mut operation = [0u64; 256];
-    let mut provision = [0u64; 256];
-    close_with_sides(
-        book,
-        category,
-        members,
-        &mut operation[..count],
-        &mut provision[..count],
-    );
-}
-
-// The same, with the shares of each side written beside the book, into slices that are 0.
-fn close_with_sides(
-    book: &mut [u64],
-    category: u64,
-    members: &[usize],
-    operation: &mut [u64],
-    provision: &mut [u64],
-)
-    requires { ⌜ closeRefusal (now book) category ≡ 0 ⌝ }
-    requires { ⌜ now members ≡ membersOf (now book) category ⌝ }
-    requires { ⌜ (length (now operation) ≡ length (now members)) × (length (now provision) ≡ length (now members)) ⌝ }
-    requires { ⌜ ((k : ℕ) → at (now operation) k ≡ 0) ⌝ }
-    requires { ⌜ ((k : ℕ) → at (now provision) k ≡ 0) ⌝ }
-    ensures { λ _. ⌜ now (book .exit) ≡ closeWith (now (book .entry)) category (closingShare (now (book .entry)) category) ⌝ }
-    ensures { λ _. ⌜ now (operation .exit) ≡ atPlaces (now (members .entry)) (closingShare (now (book .entry)) category Operation) ⌝ }
-    ensures { λ _. ⌜ now (provision .exit) ≡ atPlaces (now (members .entry)) (closingShare (now (book .entry)) category Provision) ⌝ }
-{
-    set_shares(book, category, members, Side::Operation, operation);
-    set_shares(book, category, members, Side::Provision, provision);
-    hand_out_to(book, members, operation, provision);
-    set_closed(book, category);
-}
-
 // Sets the closed word of the category of this number.
 fn set_closed(book: &mut [u64], category: u64)
     requires { ⌜ (bookLength ≤ length (now book)) × (1 ≤ category) × (category ≤ mostCategories) ⌝ }
@@ -153,30 +156,4 @@ fn set_closed(book: &mut [u64], category: u64)
 {
     let place = category as usize - 1;
     book[CATEGORY_LIST.first + CATEGORY_LIST.width * place + CLOSED_WORD] = 1;
-}
-
-// Writes the shares of the elements at these places.
-fn hand_out_to(book: &mut [u64], members: &[usize], operation: &[u64], provision: &[u64])
-    requires { ⌜ sound (now book) ≡ true ⌝ }
-    requires { ⌜ Listed (now book) (now members) ⌝ }
-    requires { ⌜ (length (now operation) ≡ length (now members)) × (length (now provision) ≡ length (now members)) ⌝ }
-    ensures { λ _. ⌜ now (book .exit)
-        ≡ handOutTo (now (members .entry)) (length (now (members .entry))) (now (book .entry))
-        (listsBySide (now (operation .entry)) (now (provision .entry))) ⌝ }
-{
-    let mut next = 0;
-    while next < members.len() {
-        put_shares(book, members[next], operation[next], provision[next]);
-        next += 1;
-    }
-}
-
-// Writes the shares of the element at this place.
-fn put_shares(book: &mut [u64], place: usize, operation: u64, provision: u64)
-    requires { ⌜ (bookLength ≤ length (now book)) × (place < mostElements) ⌝ }
-    ensures { λ _. ⌜ now (book .exit) ≡ putShares (now (book .entry)) place operation provision ⌝ }
-{
-    let at = ELEMENT_LIST.first + ELEMENT_LIST.width * place;
-    book[at + OPERATION_SHARE_WORD] = operation;
-    book[at + PROVISION_SHARE_WORD] = provision;
 }

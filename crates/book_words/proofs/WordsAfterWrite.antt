@@ -1,5 +1,5 @@
 -- Words after writes. Assumes nothing.
-use mathlib.Core.List.{List, [], _∷_}
+use mathlib.Core.List.{List, _++_, [], _∷_}
 use mathlib.Core.Path.{_≡_, refl, _∙_, ap, sym}
 use Prim.Native.Nat.{ℕ, zero, suc, _-_, _<_, _≤_, _+_}
 use native.Mathlib.Nat.{add-zero, add-suc, suc-add}
@@ -52,9 +52,12 @@ module _ {words old new : List ℕ} {start i : ℕ} (s : Storing words old start
   pub storing-done : length words ≤ i → new ≡ sets old start words
   storing-done h = rw (drop-of-length-le words {i = i} h) at (s .so-far)
 
--- past the part of a slice that is filled the old words stand
-pub filled-past : (n : ℕ) (f : ℕ → ℕ) (old : List ℕ) (k : ℕ) → n ≤ k → at (filled n f old) k ≡ at old k
-filled-past n f old k h =
-    let there : length (listBelow n f) + (k - n) ≡ k = omega (arith, list-length n f) in
+-- past the part of a slice that is written anew the old words stand
+pub front-past : (front old : List ℕ) (n k : ℕ) → length front ≡ n → n ≤ k → at (front ++ drop n old) k ≡ at old k
+front-past front old n k long h =
+    let there : length front + (k - n) ≡ k = omega arith in
     let back : n + (k - n) ≡ k = omega arith in
-    ap (at (filled n f old)) (sym there) ∙ getD-append-add (listBelow n f) (drop n old) (k - n) 0 ∙ getD-drop n old (k - n) 0 ∙ ap (at old) back
+    ap (at (front ++ drop n old)) (sym there) ∙ getD-append-add front (drop n old) (k - n) 0 ∙ getD-drop n old (k - n) 0 ∙ ap (at old) back
+
+pub filled-past : (n : ℕ) (f : ℕ → ℕ) (old : List ℕ) (k : ℕ) → n ≤ k → at (filled n f old) k ≡ at old k
+filled-past n f old k = front-past (listBelow n f) old n k (list-length n f)

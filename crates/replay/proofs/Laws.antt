@@ -22,7 +22,7 @@ use Rattle.replay.specs.declared.records.Words.{Words}
 use Rattle.replay.specs.Answers.{callOf, answered}
 use Rattle.replay.specs.Cells.{cellOf, noCells, withCell, cellsAfter}
 use Rattle.replay.specs.Conserving.{wordsIn, recordWords, isCall, leavesBook, areOfList, callsIn, Played, StartsList, ReplayConservation}
-use Rattle.replay.specs.Replay.{bad, lentCount, lentWords, withCells, called, divisionDone, changed, dumped, cellListed, lineDone, performed}
+use Rattle.replay.specs.Replay.{bad, lentCount, lentWords, withCells, called, divisionDone, changed, dumped, previewDone, cellListed, lineDone, performed}
 use Rattle.replay.specs.Replay.{Machine}
 use Rattle.replay.specs.Stages.{recordBytes, Stage, onMachine, counted, due, operated, handled, replayedOf, recordsIn, replayed}
 use Rattle.replay.specs.Words.{wordsOf}
@@ -134,7 +134,7 @@ module _ (words : Words) (file : List ℕ) (machine : Machine) where
       go false good = (refl, refl)
 
   book-left : leavesBook words ≡ true → done .good ≡ true → Passed
-  unfolding performed called answered divisionDone changed dumped
+  unfolding performed called answered divisionDone changed dumped previewDone
   book-left is good =
       let n = words .operation in
       let ws = lentWords machine in
@@ -150,7 +150,8 @@ module _ (words : Words) (file : List ℕ) (machine : Machine) where
       (refl, refl)))
       (λ is. either-test (eqb n 14) _ is
       (λ e. rw (eqb-true n 14 e) (either-holding ws cells (leb (words .first + words .second) 3000) _ _ (refl, refl) (refl, refl)))
-      (λ e. listed-passed (eqb-true n 16 e) good)))))
+      (λ is. either-test (eqb n 16) _ is (λ e. listed-passed (eqb-true n 16 e) good)
+      (λ e. rw (eqb-true n 18 e) (either-holding ws cells (leb (words .second) 600) _ _ (refl, refl) (refl, refl))))))))
 
 -- a whole record of an operation that has no file, where none is on its way, is performed
 performs : (bytes : List ℕ) (stage : Stage) → stage .missing ≡ 0 → (wordsOf bytes .operation ≡ 15 → ⊥) → recordBytes ≤ length bytes

@@ -9,14 +9,12 @@ use mathlib.Core.List.{List, [], _∷_, _++_, append-nil}
 use borrow.Author.Tests.{le-leb}
 use lib.ListN.{length, take, drop, set, replicate, length-take, drop-of-length-le}
 use lib.Seq.{take-all, take-nil}
-use Rattle.apportion.specs.Places.{sumOf}
-use Rattle.apportion.specs.Dividing.{refusal, sharesAfter}
 use Rattle.replay.specs.declared.output.Answer.{Answer}
 use Rattle.replay.specs.declared.records.Words.{Words}
 use Rattle.replay.specs.declared.state.State.{State}
 use Rattle.replay.specs.Answers.{Answered, answeredOf, answered}
 use Rattle.replay.specs.Text.{numbersLine}
-use Rattle.replay.specs.Replay.{arrayLength, room, withCount, withText, returned, called, division, divisionDone}
+use Rattle.replay.specs.Replay.{arrayLength, room, withCount, withText, returned, called, division, divisionDone, pairRoom, previewed, previewDone}
 use Rattle.replay.specs.Stages.{stageOf, onMachine}
 
 -- what is made of the one or the other
@@ -52,20 +50,24 @@ call-returned operation lent come words memory file buffer book state answer len
     let on-lent = rw (lent-is, come-is, take-min) at answer-is in
     rw lent-is (ap (λ (a : Answered). onMachine (returned a) (stageOf memory file buffer state)) on-lent)
 
--- operation 10: the numbers of a division, the refusal number in front of the shares
-pub division-line : (pool refused : ℕ) (weights line shares : List ℕ) → 0 < length line
-    → refused ≡ refusal pool (length weights) (length (take (length line - 1) (drop 1 line))) (sumOf weights)
-    → shares ≡ sharesAfter pool weights (take (length line - 1) (drop 1 line))
-    → set (take 1 line ++ (shares ++ drop (length line - 1) (drop 1 line))) 0 refused ≡ division pool weights (drop 1 line)
-division-line pool refused weights [] shares some refused-is shares-is = let z : ⊥ = omega arith in absurd z
-division-line pool refused weights (x ∷ xs) shares some refused-is shares-is =
+-- operations 10 and 18: the refusal number of a call in front of the slice that it was lent, which is the line behind its first number
+pub answered-line : (number : List ℕ → ℕ) (written : List ℕ → List ℕ) (refused : ℕ) (line after : List ℕ) → 0 < length line
+    → refused ≡ number (take (length line - 1) (drop 1 line))
+    → after ≡ written (take (length line - 1) (drop 1 line))
+    → set (take 1 line ++ (after ++ drop (length line - 1) (drop 1 line))) 0 refused ≡ number (drop 1 line) ∷ written (drop 1 line)
+answered-line number written refused [] after some refused-is after-is = let z : ⊥ = omega arith in absurd z
+answered-line number written refused (x ∷ xs) after some refused-is after-is =
     let all : length xs ≤ length (x ∷ xs) - 1 = omega arith in
-    rw (drop-of-length-le xs all, append-nil, refused-is, shares-is, take-all (length (x ∷ xs) - 1) xs all)
+    rw (drop-of-length-le xs all, append-nil, refused-is, after-is, take-all (length (x ∷ xs) - 1) xs all)
 
 take-replicate : (n m x : ℕ) → n ≤ m → take n (replicate m x) ≡ replicate n x
 take-replicate zero m x h = refl
 take-replicate (suc n) zero x h = let z : ⊥ = omega arith in absurd z
 take-replicate (suc n) (suc m) x h = ap (λ (xs : List ℕ). x ∷ xs) (take-replicate n m x (omega arith))
+
+-- the slice that is lent: `size` sevens
+sevens : (size most : ℕ) → size ≤ most → drop {A = ℕ} 1 (take (size + 1) (replicate (most + 1) 7)) ≡ replicate size 7
+sevens size most h = let fits : size + 1 ≤ most + 1 = omega arith in rw (take-replicate (size + 1) (most + 1) 7 fits, add-one)
 
 -- `n` of the weights, as many as are listed, are divided by
 pub divide-good : (pool size n : ℕ) (memory file buffer : List ℕ) (state : State) → size ≤ room → n ≡ min (state .count) room
@@ -79,5 +81,12 @@ pub divide-good : (pool size n : ℕ) (memory file buffer : List ℕ) (state : S
     ≡ onMachine (divisionDone pool size) (stageOf memory file buffer state)
 unfolding divisionDone
 divide-good pool size n memory file buffer state h n-is =
-    let fits : size + 1 ≤ room + 1 = omega arith in
-    rw (le-leb size room h, take-replicate (size + 1) (room + 1) 7 fits, add-one, add-sub-cancel-left, n-is)
+    rw (le-leb size room h, sevens size room h, add-sub-cancel-left, n-is)
+
+-- operation 18 on the first `lent` words
+pub preview-good : (category size lent : ℕ) (memory file buffer : List ℕ) (state : State) → size ≤ pairRoom → lent ≡ min (state .lent) arrayLength
+    → onMachine (withText (numbersLine (previewed category (take lent memory) (drop 1 (take (size + 1) (replicate (pairRoom + 1) 7))))))
+    (stageOf memory file buffer state)
+    ≡ onMachine (previewDone category size) (stageOf memory file buffer state)
+unfolding previewDone
+preview-good category size lent memory file buffer state h lent-is = rw (le-leb size pairRoom h, sevens size pairRoom h, lent-is)

@@ -1,4 +1,4 @@
--- Demand 3 of the lists that are played: a list starts from an accepted fresh and goes on with calls. Statements, intensities,
+-- Demand 3 of the lists that are played: a list starts from an accepted fresh and goes on with calls. Statements, intensities, previews,
 -- divisions, weights, dumps and cells may stand between them; pokes, lends, loads and a second fresh are no calls of such a list.
 -- Assumes nothing.
 use Prim.Native.Nat.{ℕ, zero, suc, _≤_}
@@ -31,13 +31,13 @@ recordWords bytes = wordsIn (recordsIn bytes) bytes
 abbrev pub isCall : Words → Bool
 isCall words = (leb 2 (words .operation) && leb (words .operation) 7) || eqb (words .operation) 17
 
--- a statement, an intensity, a division, a weight, a dump and a cell leave the lent words as they are
+-- a statement, an intensity, a preview, a division, a weight, a dump and a cell leave the lent words as they are
 abbrev pub leavesBook : Words → Bool
 leavesBook words =
     eqb (words .operation) 8
     || (eqb (words .operation) 9
     || (eqb (words .operation) 10
-    || (eqb (words .operation) 11 || (eqb (words .operation) 14 || eqb (words .operation) 16))))
+    || (eqb (words .operation) 11 || (eqb (words .operation) 14 || (eqb (words .operation) 16 || eqb (words .operation) 18)))))
 
 -- the records are such operations alone
 abbrev pub areOfList : List Words → Bool

@@ -6,6 +6,7 @@ use lib.Dec.{eqb, ltb, leb}
 use lib.ListN.{length, take, drop, set, replicate}
 use Rattle.apportion.specs.Places.{sumOf}
 use Rattle.apportion.specs.Dividing.{refusal, sharesAfter}
+use Rattle.book_shares.specs.Previews.{previewRefusal, previewPairs}
 use Rattle.replay.specs.declared.cells.Cells.{Cells}
 use Rattle.replay.specs.declared.records.Words.{Words}
 use Rattle.replay.specs.declared.state.State.{State}
@@ -143,6 +144,19 @@ cellListed words machine =
 unfoldable pub lineDone : Words → List ℕ → Machine → Machine
 lineDone words file machine = cond (eqb (machine .cells .count) 3) (withCells (cellsAfter 17 words (machine .cells)) (called 17 words file machine)) (bad machine)
 
+-- the longest slice of pairs
+abbrev pub pairRoom : ℕ
+pairRoom = 600
+
+-- the numbers of a preview: the refusal number, and the slice of pairs after the call
+abbrev pub previewed : ℕ → List ℕ → List ℕ → List ℕ
+previewed category ws pairs = previewRefusal ws pairs category ∷ previewPairs ws pairs category
+
+-- operation 18: a preview on the lent words, into `size` words of pairs, each of which is 7 before
+unfoldable pub previewDone : ℕ → ℕ → Machine → Machine
+previewDone category size machine =
+    cond (leb size pairRoom) (withText (numbersLine (previewed category (lentWords machine) (replicate size 7))) machine) (bad machine)
+
 -- what an operation does with the words of its record, 15 with the bytes of its file
 unfoldable pub performed : ℕ → Words → List ℕ → Machine → Machine
 performed operation words file machine =
@@ -151,4 +165,5 @@ performed operation words file machine =
     (cond (eqb operation 14) (dumped (words .first) (words .second) machine)
     (cond (eqb operation 16) (cellListed words machine)
     (cond (eqb operation 17) (lineDone words file machine)
-    (changed operation words machine)))))
+    (cond (eqb operation 18) (previewDone (words .first) (words .second) machine)
+    (changed operation words machine))))))

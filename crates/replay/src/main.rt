@@ -9,6 +9,7 @@ mod files;
 mod memory;
 mod operations;
 mod output;
+mod previews;
 mod records;
 mod state;
 

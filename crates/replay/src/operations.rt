@@ -11,6 +11,7 @@ use crate::files::File;
 use crate::memory;
 use crate::memory::Memory;
 use crate::output::Buffer;
+use crate::previews;
 use crate::records;
 use crate::records::Words;
 use crate::state;
@@ -76,6 +77,7 @@ pub fn perform(
         14 => memory::dump(words.first, words.second, memory, buffer, state),
         16 => cells::list(words, state),
         17 => calls::line(words, memory, file, buffer, state),
+        18 => previews::preview(words.first, words.second, memory, buffer, state),
         _ => memory::change(operation, words, memory, state),
     }
 }

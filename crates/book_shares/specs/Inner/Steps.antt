@@ -2,12 +2,13 @@
 use mathlib.Core.Bool.{cond, true, false}
 use mathlib.Core.List.{List, _∷_, []}
 use mathlib.Core.Path.{_≡_}
-use Prim.Native.Nat.{ℕ, _+_, _≤_, zero, suc}
+use Prim.Native.Nat.{ℕ, _+_, _*_, _≤_, zero, suc}
 use lib.Dec.{eqb}
-use lib.ListN.{length}
+use lib.ListN.{length, set}
 use Rattle.apportion.specs.Dividing.{Divisible, divided, mostPool}
+use Rattle.apportion.specs.Grounds.{accepted}
 use Rattle.apportion.specs.Places.{at, listBelow}
-use Rattle.book_words.specs.Book.{categories, putShares}
+use Rattle.book_words.specs.Book.{categories, elementList, operationShareWord}
 use Rattle.book_words.specs.Measures.{between, isHub}
 use Rattle.book_words.specs.Soundness.{sound}
 use Rattle.book_words.specs.declared.totals.Side.{Side}
@@ -17,8 +18,10 @@ use Rattle.book_words.specs.declared.records.Entry.{Entry}
 use Rattle.book_shares.specs.declared.pools.Pools.{Pools}
 use Rattle.book_shares.specs.declared.sharing.Parts.{Parts}
 use Rattle.book_shares.specs.declared.weights.Recipients.{Recipients}
+use Rattle.book_shares.specs.Closing.{closeRefusal}
 use Rattle.book_shares.specs.Intensities.{isIntensityCode, lacksActivity}
-use Rattle.book_shares.specs.Inner.Members.{weightsAt}
+use Rattle.book_shares.specs.Shares.{closingShare}
+use Rattle.book_shares.specs.Inner.Members.{atPlaces, members, weightsAt}
 use Rattle.book_shares.specs.Sums.{inGroup, activityAmong, pool}
 
 -- the pools with what an entry adds to them, where it is of the category
@@ -63,16 +66,40 @@ abbrev pub withPartsOf : List ℕ → List ℕ → Recipients → ℕ → List �
 withPartsOf ws places recipients amount shares =
     listBelow (length places) (λ k. at shares k + at (divided amount (weightsAt ws places recipients)) k)
 
+-- what a closing is worked out with: a sound book, the places of the category's elements, and a slice of zeros for the shares of
+-- each side
+pub record ToWorkOut (ws : List ℕ) (category : ℕ) (places byOperation byProvision : List ℕ) : Type 0 where
+  pub fine : sound ws ≡ true
+  pub are : places ≡ members ws category
+  pub operation-long : length byOperation ≡ length places
+  pub provision-long : length byProvision ≡ length places
+  pub operation-zeros : (k : ℕ) → at byOperation k ≡ 0
+  pub provision-zeros : (k : ℕ) → at byProvision k ≡ 0
+
+-- the shares of the elements at these places, where the closing is accepted
+abbrev pub workedOut : List ℕ → ℕ → List ℕ → Side → List ℕ → List ℕ
+workedOut ws category places side shares =
+    accepted (closeRefusal ws category) (atPlaces places (closingShare ws category side)) shares
+
 -- two lists by their sides
 abbrev pub listsBySide : List ℕ → List ℕ → Side → ℕ → ℕ
 listsBySide a b operation k = at a k
 listsBySide a b provision k = at b k
 
--- the elements at the first n of these places get their shares, one after the other
-abbrev pub handOutTo : List ℕ → ℕ → List ℕ → (Side → ℕ → ℕ) → List ℕ
-handOutTo places zero ws share = ws
-handOutTo places (suc n) ws share =
-    putShares (handOutTo places n ws share) (at places n) (share operation n) (share provision n)
+-- two words are written, one after the other
+abbrev pub putTwo : List ℕ → ℕ → ℕ → ℕ → List ℕ
+putTwo words start byOperation byProvision = set (set words start byOperation) (start + 1) byProvision
+
+-- the elements at the first n of these places get their shares, one after the other. The words of the place p begin at
+-- first + width × p
+abbrev pub handOutTo : ℕ → ℕ → List ℕ → ℕ → List ℕ → (Side → ℕ → ℕ) → List ℕ
+handOutTo first width places zero words share = words
+handOutTo first width places (suc n) words share =
+    putTwo (handOutTo first width places n words share) (first + width * at places n) (share operation n) (share provision n)
+
+-- in the book: the first share word of the first element
+abbrev pub firstShare : ℕ
+firstShare = elementList .first + operationShareWord
 
 -- grounds 1, 2, 3 and 9 of an intensity do not hold; the code behind them needs no more
 pub record Allowed (ws : List ℕ) (category code : ℕ) : Type 0 where

@@ -2,8 +2,7 @@
 use native.Mathlib.Omega.{arith}
 use borrow.Author.Needs.{needs}
 use mathlib.Core.List.{[]}
-use Rattle.apportion.specs.Inner.Grounds.{groundsBefore}
-use Rattle.book_shares.specs.Closing.{closeGroundsIn}
+use Rattle.book_shares.specs.Closing.{closeRefusal, closeGroundsIn}
 use Rattle.apportion.proofs.Grounds.{groundsAfter}
 use Rattle.book_words.proofs.SoundTests.{sound-counted}
 use Rattle.book_words.proofs.NumberedRecords.{category-grounds}
@@ -11,10 +10,13 @@ use Rattle.book_shares.proofs.closings.refusal_number.Statement.{statem
 use Rattle.book_shares.proofs.closings.refusal_number.Tie as tie
 
 shared-slice-read-categories : tie.Need-shared-slice-read-categories
-shared-slice-read-categories c = omega (arith, sound-counted (c .before .before .args .book .now) (c .before .before .pre))
+shared-slice-read-categories c = omega (arith, sound-counted (c .before .before .before .args .book .now) (c .before .before .before .pre .0))
 
 numbered-category-requires : tie.Need-numbered-category-requires
 numbered-category-requires c κs = search needs
+
+lacks-elements-requires : tie.Need-lacks-elements-requires
+lacks-elements-requires c κs = search needs
 
 slice-aggregate-first-of : tie.Need-slice-aggregate-first-of
 slice-aggregate-first-of c = search needs
@@ -26,12 +28,14 @@ first-of-requires : tie.Need-first-of-requires
 first-of-requires c κs = search needs
 
 returns : tie.Need-returns
+unfolding closeRefusal
 returns c =
-    let read = c .before .before .before .before in
-    let s = read .before .before .before in
+    let lacking = c .before .before .before in
+    let read = lacking .before .before in
+    let s = read .before .before .before .before in
     let ws = s .args .book .now in
-    category-grounds ws (s .args .category) [] (λ k. groundsAfter 2 (groundsBefore 9 (closeGroundsIn ws (s .args .category) k)))
-    (s .pre) (read .numbered-category .ensures) (c .first-of .ensures)
+    category-grounds ws (s .args .category) [] (λ k. groundsAfter 2 (closeGroundsIn ws (s .args .category) k)) (s .pre .0)
+    (read .numbered-category .ensures) (rw (lacking .lacks-elements .ensures) at (c .first-of .ensures))
 
 pub refusal-number-spec : {M : Type 1} → statement M
 refusal-number-spec =
@@ -39,6 +43,7 @@ refusal-number-spec =
     (tie.spec
     shared-slice-read-categories
     numbered-category-requires
+    lacks-elements-requires
     slice-aggregate-first-of
     slice-aggregate-first-of-2
     first-of-requires

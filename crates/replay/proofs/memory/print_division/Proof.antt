@@ -1,6 +1,9 @@
 -- `replay::memory::print_division` meets its contract. Assumes nothing.
 use borrow.Author.Needs.{needs}
-use Rattle.replay.proofs.OperationTests.{division-line}
+use lib.ListN.{length}
+use Rattle.apportion.specs.Dividing.{refusal, sharesAfter}
+use Rattle.apportion.specs.Places.{sumOf}
+use Rattle.replay.proofs.OperationTests.{answered-line}
 use Rattle.replay.proofs.memory.print_division.Statement.{statement}
 use Rattle.replay.proofs.memory.print_division.Tie as tie
 
@@ -29,10 +32,10 @@ returns : tie.Need-returns
 returns c =
     let made = c .before .before .before .before .before in
     let start = made .before .before .before .before in
+    let weights = start .args .weights .now in
     let line =
-    division-line (start .args .pool) (made .divide .result) (start .args .weights .now) (start .args .line .now) _ (start .pre)
-    (made .divide .ensures .0)
-    (made .divide .ensures .1) in
+    answered-line (λ shares. refusal (start .args .pool) (length weights) (length shares) (sumOf weights)) (sharesAfter (start .args .pool) weights)
+    (made .divide .result) (start .args .line .now) _ (start .pre) (made .divide .ensures .0) (made .divide .ensures .1) in
     (line, λ memory file. rw (c .print .ensures memory file, line))
 
 pub print-division-spec : {M : Type 1} → statement M

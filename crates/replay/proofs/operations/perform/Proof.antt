@@ -31,6 +31,9 @@ list-requires c κs = search needs
 line-requires : tie.Need-line-requires
 line-requires c κs = search needs
 
+preview-requires : tie.Need-preview-requires
+preview-requires c κs = search needs
+
 change-requires : tie.Need-change-requires
 change-requires c κs = search needs
 
@@ -61,15 +64,22 @@ returns-6 c =
 returns-7 : tie.Need-returns-7
 unfolding due performed
 returns-7 c =
+    let test = c .before .before .before .before .before in
+    rw (le-ltb 0 _ (test .before .if1 .left), c .before .before .before .before .match .keys5) (c .preview .ensures _)
+
+returns-8 : tie.Need-returns-8
+unfolding due performed
+returns-8 c =
     let other = c .before .before in
     let test = other .before in
     rw (
       le-ltb 0 _ (test .before .if1 .left),
       test .if2 .left,
-      ne-eqb _ 10 (other .match .rest .0 .0 .0 .1),
-      ne-eqb _ 14 (other .match .rest .0 .0 .1),
-      ne-eqb _ 16 (other .match .rest .0 .1),
-      ne-eqb _ 17 (other .match .rest .1),
+      ne-eqb _ 10 (other .match .rest .0 .0 .0 .0 .1),
+      ne-eqb _ 14 (other .match .rest .0 .0 .0 .1),
+      ne-eqb _ 16 (other .match .rest .0 .0 .1),
+      ne-eqb _ 17 (other .match .rest .0 .1),
+      ne-eqb _ 18 (other .match .rest .1),
     )
     (c .change .ensures _ _)
 
@@ -84,9 +94,11 @@ perform-spec =
     dump-requires
     list-requires
     line-requires
+    preview-requires
     change-requires
     returns-3
     returns-4
     returns-5
     returns-6
-    returns-7)
+    returns-7
+    returns-8)
