@@ -323,8 +323,8 @@ def endings():
         add("operation %d first" % number, record(number, 1, 1) + THREE)
         add("operation %d after a division" % number,
             THREE + record(number) + THREE)
-    # 18 is none; 15 takes the next record.
-    add("operation 18 after a book", BOOK + record(18, 1) + BOOK)
+    # 19 is none; 15 takes the next record.
+    add("operation 19 after a book", BOOK + record(19, 1) + BOOK)
     add("operation 15 after a book", BOOK + record(15, 1) + BOOK)
     add("a second closing", BOOK + record(player.CLOSE, 1) + dump(0, 47))
     add("a closing and an intensity of none",
