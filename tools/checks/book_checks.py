@@ -12,7 +12,7 @@ from cases.line_writer import (
     BLANK, INFINITY, NANS, NEGATIVE_ZERO, SUBNORMAL, ZERO, bits, single, span)
 from checks import (
     broken_lists, closing_checks, conservation_checks, file_checks,
-    line_checks, tally_checks)
+    line_checks, preview_checks, tally_checks)
 
 SEED = 64
 LARGEST = 2 ** 64 - 1
@@ -141,7 +141,8 @@ WRITTEN_OUT = (
 
 def written_out(check):
     for text, lines in (WRITTEN_OUT + closing_checks.WRITTEN_OUT
-                        + file_checks.WRITTEN_OUT + line_checks.WRITTEN_OUT):
+                        + file_checks.WRITTEN_OUT + line_checks.WRITTEN_OUT
+                        + preview_checks.WRITTEN_OUT):
         data = b"".join(records.packed(line) for line in text.split(";"))
         output = "".join(line.strip() + "\n" for line in lines.split(";"))
         check(player.play(data) == output.encode("ascii"),
@@ -444,6 +445,9 @@ def lengths(check):
             check(calls.make("line", sound, 1, 0, *[BLANK] * 3) == [15, 0],
                   "a blank cell in a short slice", length)
             check(calls.make("close", sound, 1) == [1], "short", length)
+            for pair_length in (0, 511, 512):
+                check(calls.make("preview", sound, 1, pair_length) == [1],
+                      "short", length, pair_length)
             check(calls.make("statement", sound, 1) == [1] + [0] * 5,
                   "short", length)
             check(calls.make("intensity", sound, 1, 0) == [1, 0, 0],
@@ -485,6 +489,7 @@ def run(check):
     closing_checks.run(check)
     tally_checks.by_hand(check)
     line_checks.run(check)
+    preview_checks.run(check)
     lengths(check)
     full_lists(check)
     random_calls(check)
