@@ -211,9 +211,9 @@ def lists_beside(cases):
 
 # Large books and large amounts.
 
-def books_of_16_categories(cases):
-    """All of a kind, each with 16 elements that are not adjacent: each preview
-    shows one category, and after its closing all later ones show it too."""
+def sixteen_categories(cases):
+    """Each with 16 elements that are not adjacent: a preview shows those of
+    its category, and those of the categories that are closed."""
     cases.new_book(*[number % 4 + 1 for number in range(16)])
     for number in range(1, 17):
         cases.post(number, 0, number, 10 ** 9 + number, 16)
@@ -355,7 +355,7 @@ def add(cases):
     pair_lengths(cases)
     lent_slices(cases)
     lists_beside(cases)
-    books_of_16_categories(cases)
+    sixteen_categories(cases)
     large_amounts(cases)
     values_of_preview(cases)
     without_weight(cases)
