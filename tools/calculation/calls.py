@@ -1,10 +1,11 @@
 """The calls of the book: their grounds, and what an accepted one does.
 
-Written from document 01 and from document 02's weighed passengers and lines.
-Sentences in quotation marks are their own.
+Written from document 01 and from document 02's weighed passengers, lines and
+previews. Sentences in quotation marks are their own.
 
 A call gets the words of the lent slice, reads the records out of them and,
-when it is accepted, writes into them.
+when it is accepted, writes into them. Of the slice that is lent for the pairs
+of a preview it gets the length, and answers what is written there.
 """
 
 from collections import namedtuple
@@ -36,6 +37,11 @@ OVER_LIMIT = 10
 MIXED = 14
 UNUSABLE_CELL = 15
 EXCHANGED_SPAN = 16
+SHORT_PAIRS = 17
+
+# "A preview writes 256 pairs, operation and provision": one for each element
+# that there may be.
+PAIR_WORDS = ELEMENTS.most * len(AMOUNTS)
 
 
 # The grounds of each call: every number that holds, in checking order, so
@@ -177,8 +183,7 @@ def grounds_of_quote(book, chain, adjust, mass, distance,
         yield OVER_LIMIT
 
 
-@with_ground_1
-def grounds_of_close(book, category):
+def closing_grounds(book, category):
     if not book.has_category(category):
         yield NO_SUCH_NUMBER
         return
@@ -186,6 +191,19 @@ def grounds_of_close(book, category):
         yield CLOSED_OR_STRUCK
     if is_without_weight(Sums(book, category)):
         yield NO_WEIGHT
+
+
+grounds_of_close = with_ground_1(closing_grounds)
+
+
+@with_ground_1
+def grounds_of_preview(book, category, pair_length):
+    """"It refuses with 17, checked just after 1, a pair slice under 512
+    words, and otherwise exactly as closing does."
+    """
+    if pair_length < PAIR_WORDS:
+        yield SHORT_PAIRS
+    yield from closing_grounds(book, category)
 
 
 @with_ground_1
@@ -321,6 +339,21 @@ def close(words, category):
     return []
 
 
+def preview(words, category, pair_length):
+    """The words that it writes, from the first of the pair slice on: "words
+    past the 512th are not touched".
+    """
+    # "It must equal closing a copy and reading it, and the book stays the
+    # same."
+    copy = list(words)
+    close(copy, category)
+    # "Pair k is what element k would hold after closing; pairs past the last
+    # element are 0"
+    pairs = [getattr(element, amount) for element in Book(copy).elements
+             for amount in AMOUNTS]
+    return pairs + [0] * (PAIR_WORDS - len(pairs))
+
+
 def statement(words, chain):
     """"counted and added over the elements of that chain alone, elements,
     waiting (those in open categories), operation, provision, total
@@ -348,7 +381,7 @@ def intensity(words, category, code):
 
 # The calls: how many arguments one takes, the cells of a line among them, its
 # grounds, what it does, and how many numbers it answers beside the refusal
-# number.
+# number. "A refused preview writes no pair", so the pairs are not counted.
 
 Call = namedtuple("Call", "arguments grounds act answers")
 
@@ -361,6 +394,7 @@ CALLS = {
     "enrol": Call(6, grounds_of_enrol, enrol, 1),
     "quote": Call(6, grounds_of_quote, quote, 1),
     "close": Call(1, grounds_of_close, close, 0),
+    "preview": Call(2, grounds_of_preview, preview, 0),
     "statement": Call(1, grounds_of_statement, statement, 5),
     "intensity": Call(2, grounds_of_intensity, intensity, 2),
 }

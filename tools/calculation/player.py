@@ -22,7 +22,8 @@ from calculation import calls, dividing, loading
 RECORD = struct.Struct("<8Q")
 
 MOST_LISTED = 300  # room in the list of weights, and the longest share slice
-UNWRITTEN = 7      # what every word of a share slice holds before the call
+MOST_PAIRED = 600  # the longest pair slice
+UNWRITTEN = 7      # what every word of either slice holds before the call
 MOST_WORDS = 3000  # the array that the book lies in
 MOST_BYTES = 16_448  # of a file: one record more than a file may have
 MOST_CELLS = 3     # room in the list of cells: those of a line
@@ -106,6 +107,20 @@ def line(state, arguments):
     return call_of_book("line")(state, arguments)
 
 
+def preview(state, arguments):
+    """Shows the whole pair slice, also what is not written of it."""
+    pair_length = arguments[1]
+    if pair_length > MOST_PAIRED:
+        raise BadRecord
+    numbers = call_of_book("preview")(state, arguments)
+    return with_unwritten(numbers, pair_length)
+
+
+def with_unwritten(numbers, pair_length):
+    """The refusal number of a preview and its whole pair slice."""
+    return numbers + [UNWRITTEN] * (1 + pair_length - len(numbers))
+
+
 def divide(state, arguments):
     pool, share_count = arguments[:2]
     if share_count > MOST_LISTED:
@@ -181,6 +196,7 @@ DUMP = 14
 LOAD = 15
 CELL = 16
 LINE = 17
+PREVIEW = 18
 
 # The operations that are calls of a book.
 CALLS = {
@@ -194,6 +210,7 @@ CALLS = {
     STATEMENT: "statement",
     INTENSITY: "intensity",
     LINE: "line",
+    PREVIEW: "preview",
 }
 
 OPERATIONS = {
@@ -206,6 +223,7 @@ OPERATIONS = {
     LOAD: load,
     CELL: list_cell,
     LINE: line,
+    PREVIEW: preview,
 }
 
 

@@ -1,9 +1,10 @@
 """The rules of document 01 once more, and those of document 02's weighed
-passengers and lines, by other means; the checks compare.
+passengers, lines and previews, by other means; the checks compare.
 
 The dividing rule hands out its units one at a time, soundness goes through
-the words with running sums, the calls work on lists beside the book, and the
-doubles of a line are compared as doubles and rounded as decimal numbers.
+the words with running sums, the calls work on lists beside the book, the
+doubles of a line are compared as doubles and rounded as decimal numbers, and
+a preview closes nothing: it adds the parts to what the elements hold.
 """
 
 import struct
@@ -19,7 +20,7 @@ INTENSITY = 10 ** 15
 # with the cell's place in the line. The cases go by this list too; the
 # calculation has the order in its tests, and nothing from here.
 CHECKING_ORDER = ((15, 1), (16, 1), (15, 2), (16, 2), (15, 3), (16, 3),
-                  1, 2, 3, 4, 5, 6, 14, 7, 8, 9, 10, 11, 12, 13)
+                  1, 17, 2, 3, 4, 5, 6, 14, 7, 8, 9, 10, 11, 12, 13)
 
 
 def in_checking_order(grounds):
@@ -355,30 +356,51 @@ class Lists:
                 rows.append((0, kg * distance, activity, 0, 0))
         return rows, [sum(row[place] for row in rows) for place in range(5)]
 
-    def close(self, number):
+    def closing_grounds(self, number):
         kind, closed = self.category(number)
-        rows, (f, p, c, s1, s2) = self.weights(number)
-        sums = self.entry_sums(number)
-        grounds = {
+        f, p, _, s1, s2 = self.weights(number)[1]
+        return {
             2: kind == 0,
             4: closed == 1,
             9: f + p == 0 or any(b1 > 0 and s1 == 0 or b2 > 0 and s2 == 0
-                                 for _, b1, b2 in sums),
+                                 for _, b1, b2 in self.entry_sums(number)),
         }
-        if any(grounds.values()):
-            return (first(grounds),)
-        own = [element for element in self.elements if element[0] == number]
-        for amount, (a, b1, b2) in enumerate(sums):
+
+    def parts(self, number):
+        """What a closing hands out: the place of an element in the list, the
+        amount, 0 or 1, and one of the parts that the element gets."""
+        rows, (f, p, *_) = self.weights(number)
+        own = [place for place, element in enumerate(self.elements)
+               if element[0] == number]
+        for amount, (a, b1, b2) in enumerate(self.entry_sums(number)):
             freight_part, passenger_part = one_at_a_time(a, [f, p])
             # Every pool over all elements of the category, many with 0.
-            for pool, place in ((freight_part, 0), (passenger_part, 2),
-                                (b1, 3), (b2, 4)):
+            for pool, column in ((freight_part, 0), (passenger_part, 2),
+                                 (b1, 3), (b2, 4)):
                 if pool > 0:
-                    parts = one_at_a_time(pool, [row[place] for row in rows])
-                    for element, part in zip(own, parts):
-                        element[6 + amount] += part
+                    parts = one_at_a_time(pool, [row[column] for row in rows])
+                    for place, part in zip(own, parts):
+                        yield place, amount, part
+
+    def close(self, number):
+        grounds = self.closing_grounds(number)
+        if any(grounds.values()):
+            return (first(grounds),)
+        for place, amount, part in self.parts(number):
+            self.elements[place][6 + amount] += part
         self.categories[number - 1][1] = 1
         return (0,)
+
+    def preview(self, number, pair_length):
+        grounds = {17: pair_length < 512, **self.closing_grounds(number)}
+        if any(grounds.values()):
+            return (first(grounds),)
+        pairs = [0] * 512
+        for place, element in enumerate(self.elements):
+            pairs[2 * place:2 * place + 2] = element[6:8]
+        for place, amount, part in self.parts(number):
+            pairs[2 * place + amount] += part
+        return 0, *pairs
 
     def statement(self, chain):
         """Running sums, also of the total."""
@@ -461,11 +483,12 @@ def second_way(name, words, arguments):
     lists = KEPT[1]
     if lists is None:
         # Open, post, line, enrol and quote give a number.
-        return {"strike": [1], "close": [1], "intensity": [1, 0, 0],
+        return {"strike": [1], "close": [1], "preview": [1],
+                "intensity": [1, 0, 0],
                 "statement": [1, 0, 0, 0, 0, 0]}.get(name, [1, 0])
     numbers = getattr(lists, name)(*arguments)
-    # A statement and an intensity leave the words alone.
-    if name not in ("statement", "intensity"):
+    # These leave the words alone.
+    if name not in ("preview", "statement", "intensity"):
         lists.write(words)
         if numbers[0] == 0:
             # They are those of other words now.

@@ -6,7 +6,8 @@ from itertools import combinations
 from calculation.second_way import CHECKING_ORDER, number_of
 from cases import (
     call_cases, closing_cases, conservation_cases, file_cases, intensity_cases,
-    line_cases, random_cases, soundness_cases, statement_cases, weighed_cases)
+    line_cases, preview_cases, random_cases, soundness_cases, statement_cases,
+    weighed_cases)
 from cases.book_writer import SORTS, BookCases
 
 SEED = 2404
@@ -21,6 +22,7 @@ ANSWERS = {
     "enrol": (0, 1, 2, 3, 4, 6, 14, 7, 8, 10),
     "quote": (0, 1, 3, 7, 8, 10),
     "close": (0, 1, 2, 4, 9),
+    "preview": (0, 1, 17, 2, 4, 9),
     "statement": (0, 1, 3),
     "intensity": (0, 1, 2, 3, 5, 9, 10),
 }
@@ -38,6 +40,7 @@ NEVER_BOTH = {
     "strike": ((2, 4),),
     "enrol": ((2, 4), (2, 6), (2, 14), (6, 14)),
     "close": ((2, 4), (2, 9)),
+    "preview": ((2, 4), (2, 9)),
     "intensity": ((2, 5), (2, 9), (2, 10), (3, 9), (3, 10), (9, 10)),
 }
 
@@ -103,6 +106,7 @@ def add(plain_cases):
     soundness_cases.add(cases, rng)
     weighed_cases.add(cases)
     line_cases.add(cases)
+    preview_cases.add(cases)
     add_random(cases, lambda: random_cases.add(cases, rng))
     add_long_lists(cases, possible)
     file_cases.add(cases)

@@ -2,6 +2,7 @@
 
 from calculation import book, closing, player
 from calculation.book import CATEGORIES, ELEMENTS, ENTRIES, word
+from calculation.calls import PAIR_WORDS
 from cases import file_writer
 from cases.line_writer import line_records, single
 
@@ -113,6 +114,24 @@ class BookCases:
     def close(self, category, gives=0):
         return self.call("close", category, gives=gives)
 
+    def preview(self, category, pair_length=PAIR_WORDS, gives=0, shows=None):
+        """`shows` are the pairs of the elements; after these come zeros, and
+        behind the pairs what the words held before."""
+        if shows is not None:
+            shows = (*shows, *[0] * (PAIR_WORDS - len(shows)),
+                     *[player.UNWRITTEN] * (pair_length - PAIR_WORDS))
+        return self.call("preview", category, pair_length, gives=gives,
+                         shows=shows)
+
+    def preview_shares(self, category, operation, provision):
+        """A preview in which a category's elements have these shares, in
+        their order, and the others what they hold."""
+        shares = zip(operation, provision)
+        self.preview(category, shows=[
+            share for element in book.Book(self.words).elements
+            for share in (next(shares) if element.category == category
+                          else (element.operation, element.provision))])
+
     def statement(self, chain, gives=0, shows=None):
         return self.call("statement", chain, gives=gives, shows=shows)
 
@@ -166,6 +185,7 @@ class BookCases:
         self.enrol(1, 7, 2, 8, 9, gives=gives)
         self.quote(10_000, 1, 11, 12, 13, 14, gives=gives)
         self.statement(7, gives=gives)
+        self.preview(1, gives=gives)
         self.close(1, gives=gives)
         self.statement(7, gives=gives)
         self.intensity(1, 2, gives=gives)

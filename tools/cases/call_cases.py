@@ -22,6 +22,7 @@ def before_fresh(cases):
     cases.enrol(1, 1, 0, 1, 1, gives=1)
     cases.quote(1, 0, 1, 1, 1, 1, gives=1)
     cases.close(1, gives=1)
+    cases.preview(1, gives=1)
     cases.statement(1, gives=1)
     cases.intensity(1, 0, gives=1)
     cases.poke(0, book.MARK)
@@ -92,7 +93,8 @@ def unused_arguments(cases):
         (player.CELL, 1, 0), (player.LINE, 1, 0), (player.CELL, 0),
         (player.CELL, 1, 0), (player.CELL, 1, 0), (player.LINE, 1, 0),
         (player.STRIKE, 1), (player.ENROL, 1, 1, 100, 2, 3, 75),
-        (player.QUOTE, 1, 1, 1, 1, 1, 1), (player.CLOSE, 1),
+        (player.QUOTE, 1, 1, 1, 1, 1, 1), (player.PREVIEW, 1, 3),
+        (player.PREVIEW, 1, 512), (player.CLOSE, 1),
         (player.STATEMENT, 1), (player.INTENSITY, 1, 100),
         (player.POKE, 2999, 8),
         (player.LEND, 2660), (player.DUMP, 0, 40), (player.DUMP, 356, 19),

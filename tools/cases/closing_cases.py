@@ -24,8 +24,10 @@ def category(cases, kind, entries, elements):
 
 
 def closed(cases, kind, entries, elements, operation, provision):
-    """A new category that is closed with these shares: its number."""
+    """A new category that is closed with these shares, after a preview that
+    shows them: its number."""
     number = category(cases, kind, entries, elements)
+    cases.preview_shares(number, operation, provision)
     cases.close(number)
     cases.shares_are(number, operation, provision)
     return number
@@ -234,6 +236,7 @@ def interleaved(cases):
         if number % 5 == 0:
             cases.enrol(4, 4, number % 2, 1 + number, 0)
     for number in (2, 4, 1, 3):
+        cases.preview(number)
         cases.close(number)
         cases.intensities(number)
         cases.dump_book()
@@ -256,6 +259,7 @@ def largest_pools(cases):
         number = category(cases, 3, [(0, operation, provision)],
                           freight + passengers)
         cases.enrol(number, 1, 0, 1, 1, gives=10)
+        cases.preview(number)
         cases.close(number)
         cases.intensities(number)
         cases.dump_all()
@@ -272,6 +276,7 @@ def largest_pools(cases):
         cases, 1, [(0, 2 * part, part), (1, part, 2 * part), (2, part, part)],
         [(code, MASS - number, FARTHEST // 8 - number)
          for number, code in enumerate((0, 1, 2, 2, 1, 0, 1, 2))])
+    cases.preview(number)
     cases.close(number)
     cases.intensities(number)
     cases.dump_all()
@@ -295,6 +300,7 @@ def most_activity_of_passengers(cases):
                       [(1000 - 37 * place, HEADS, FARTHEST)
                        for place in range(24)]
                       + [(1000, HEADS - 1, FARTHEST), (100, 1, 1)])
+    cases.preview(number)
     cases.close(number)
     cases.intensities(number)
     cases.dump_all()
@@ -316,6 +322,7 @@ def many_elements(cases):
              [(number % 3 if number * 7 % 5 < 3 else 100 + number * 3,
                1 + number * 37 % 101, 1 + number * 53 % 997)
               for number in range(256)])
+    cases.preview(1)
     cases.close(1)
     cases.intensities(1)
     cases.dump_all()
@@ -323,6 +330,7 @@ def many_elements(cases):
     cases.new_book()
     category(cases, 4, [(0, EMISSIONS - 10 ** 9, 300), (2, 10 ** 9, 171)],
              [(number % 3, MASS - number % 7, 0) for number in range(256)])
+    cases.preview(1)
     cases.close(1)
     cases.intensities(1)
     cases.dump_all()
@@ -349,6 +357,7 @@ def every_category(cases):
                         0 if target % 4 == 0 else 1 + number % 31)
     for low in range(1, 9):
         for target in (low, 17 - low):
+            cases.preview(target)
             cases.close(target)
             cases.intensities(target)
     cases.dump_all()
@@ -395,6 +404,9 @@ def unsound_and_short(cases):
     category(cases, 3, [(0, 9, 8), (1, 7, 6)], [(0, 1, 1), (1, 1, 1)])
     category(cases, 1, [(0, 5, 4)], [(0, 1, 1), (0, 1, 1)])
     cases.close(2)
+    # Group 0: 9 is 5, 4 and 8 is 4, 4; group 1 goes to the second.
+    shown = 5, 4, 11, 10, 3, 2, 2, 2
+    cases.preview(1, shows=shown)
     share = word(ELEMENTS, 3, "operation")
     for index, value in (
         (0, 0), (0, LARGEST), (1, 17), (2, 65), (3, 257), (1, 1), (3, 5),
@@ -409,15 +421,20 @@ def unsound_and_short(cases):
         cases.poke(index, value)
         for number in (1, 2, 0):
             cases.close(number, gives=1)
+            cases.preview(number, 0, gives=1)
+        cases.preview(1, gives=1)
         cases.intensity(2, 0, gives=1)
         cases.poke(index, value_before)
     for lent in (0, 1, 36, 356, 2404, 2659):
         cases.lend(lent)
         cases.close(1, gives=1)
+        for pair_length in (0, 511, 512, 600):
+            cases.preview(1, pair_length, gives=1)
         cases.intensity(2, 0, gives=1)
     cases.dump_book()
     # Exactly the book is lent.
     cases.lend(book.LENGTH)
+    cases.preview(1, shows=shown)
     cases.close(1)
     cases.intensity(1, 1)
     cases.dump_all()
@@ -437,6 +454,8 @@ def uncounted_records(cases):
     for index in range(book.LENGTH, book.LENGTH + 10):
         cases.poke(index, index)
     cases.close(2, gives=2)
+    cases.preview(2, gives=2)
+    cases.preview(1, 600, shows=(3, 2, 12, 10))
     cases.close(1)
     cases.shares_are(1, (3, 12), (2, 10))
     cases.intensity(1, 1, shows=(3333 + 2500, 2333 + 2500))
@@ -526,10 +545,11 @@ def not_hindered(cases):
     cases.dump_all()
 
 
-def order_of_close(cases):
-    """Category 1 open and empty, 2 open without its group's elements, 3
-    closed, 4 closed and empty, 5 closed without its group's elements. No call
-    makes 4 and 5: a closed word and the shares are written directly."""
+def book_of_grounds(cases):
+    """The grounds that the categories of a new book bring: 1 is open and
+    empty, 2 open without its group's elements, 3 closed, 4 closed and empty,
+    5 closed without its group's elements. No call makes 4 and 5: a closed
+    word and the shares are written directly."""
     cases.new_book(1)
     category(cases, 3, [(0, 1, 1), (1, 0, 1)], [(0, 1, 1), (100, 1, 1)])
     closed(cases, 1, [(0, 3, 4)], [(0, 1, 1)], (3,), (4,))
@@ -538,12 +558,15 @@ def order_of_close(cases):
     category(cases, 3, [(2, 6, 0)], [(1, 1, 1)])
     cases.poke(word(ELEMENTS, 4, "operation"), 6)
     cases.poke_closed(5)
-    combinations = [((1,), {9}), ((2,), {9}), ((3,), {4}), ((4,), {4, 9}),
-                    ((5,), {4, 9}), ((0,), {2}), ((6,), {2}),
-                    ((LARGEST,), {2})]
-    try_in_order(cases, "close", combinations)
-    for arguments, faults in combinations[3:5]:
-        in_order_with_1(cases, "close", arguments, faults)
+    return {1: {9}, 2: {9}, 3: {4}, 4: {4, 9}, 5: {4, 9}}
+
+
+def order_of_close(cases):
+    grounds = {**book_of_grounds(cases), 0: {2}, 6: {2}, LARGEST: {2}}
+    try_in_order(cases, "close", [((number,), faults)
+                                  for number, faults in grounds.items()])
+    for number in (4, 5):
+        in_order_with_1(cases, "close", (number,), grounds[number])
     cases.dump_all()
 
 

@@ -2,7 +2,9 @@
 
 from calculation import book
 from calculation.book import CATEGORIES, ELEMENTS, ENTRIES
+from calculation.calls import PAIR_WORDS
 from calculation.closing import INTENSITY_CODES
+from calculation.player import MOST_PAIRED
 from cases.book_writer import FARTHEST, LARGEST
 from cases.line_writer import (
     BLANK, INFINITY, LARGEST_FINITE, NANS, NEGATIVE_ZERO, NORMAL, SIGN,
@@ -133,7 +135,7 @@ def random_call(cases, rng, scale, scale_of_posts=None):
     kind = words[book.place(CATEGORIES, category)]
     chain = one_of(rng, (1, 2, 3, 10_000, 1 + rng.randrange(10_000)))
     group = 0 if kind == 2 else one_of(rng, (0, 0, 1, 2))
-    sort = rng.randrange(126)
+    sort = rng.randrange(127)
     if sort < 4:
         return "open", (one_of(rng, (1, 2, 3, 3, 4)),)
     if sort < 26:
@@ -160,7 +162,17 @@ def random_call(cases, rng, scale, scale_of_posts=None):
     if sort < 118:
         return "line", (category, group, cell(book.QUANTITIES),
                         cell(book.FACTORS), cell(book.FACTORS))
-    return "statement", (chain,)
+    if sort < 126:
+        return "statement", (chain,)
+    # 0 and 17 are the numbers of none.
+    return "preview", (one_of(rng, (*[category] * 8, 0, 17)),
+                       random_pair_length(rng))
+
+
+def random_pair_length(rng):
+    """Most often long enough."""
+    return one_of(rng, (*[PAIR_WORDS] * 6, PAIR_WORDS + 1, PAIR_WORDS - 1,
+                        MOST_PAIRED, rng.randrange(MOST_PAIRED + 1)))
 
 
 WILD = (0, 1, 2, 3, 4, 5, 15, 16, 17, 63, 64, 65, 99, 100, 101, 255, 256, 257,
@@ -184,6 +196,9 @@ def wild_call(cases, rng, scales=(20, 30, LARGE)):
     for _ in range(rng.randrange(3)):
         place = rng.randrange(len(arguments))
         arguments[place] = wild_argument(rng, arguments[place])
+    if name == "preview" and arguments[1] > MOST_PAIRED:
+        # No record has a longer slice.
+        arguments[1] = random_pair_length(rng)
     return name, arguments
 
 
@@ -258,7 +273,8 @@ def lists_of_closings(cases, rng):
         for step in range(28):
             category = 1 + rng.randrange(4)
             kind = (3, *kinds)[category - 1]
-            random_member(cases, rng, category, kind, scale)
+            cases.enrol(*random_member(cases.words, rng, category, kind,
+                                       scale))
             if step % 3 == 0:
                 group = 0 if kind == 2 else one_of(rng, (0, 0, 1, 2))
                 quantity = random_measure(rng, book.QUANTITIES, 20)
@@ -269,21 +285,23 @@ def lists_of_closings(cases, rng):
                 cases.strike(1 + rng.randrange(cases.words[2]), gives=None)
         for chain in (1, 2, 3, 4):
             cases.statement(chain)
+        for category in (1, 2, 3, 4):
+            cases.preview(category, gives=None)
         close_all(cases)
         for chain in (1, 2, 3, 4):
             cases.statement(chain)
         cases.dump_book()
 
 
-def random_member(cases, rng, category, kind, scale):
-    """Enrols an element that suits the kind."""
+def random_member(words, rng, category, kind, scale):
+    """The arguments of an enrolment that suits the kind."""
     passengers = kind == 2 or kind == 3 and rng.randrange(2) == 0
     code = (one_of(rng, (100, 150, 400, 1000)) if passengers
             else rng.randrange(3))
-    cases.enrol(category, 1 + rng.randrange(4), code,
-                random_measure(rng, book.amounts_of(code), scale),
-                0 if kind == 4 else random_measure(rng, book.DISTANCES, scale),
-                random_kg_per_head(cases.words, rng, category, code, 0))
+    return (category, 1 + rng.randrange(4), code,
+            random_measure(rng, book.amounts_of(code), scale),
+            0 if kind == 4 else random_measure(rng, book.DISTANCES, scale),
+            random_kg_per_head(words, rng, category, code, 0))
 
 
 def some_word(cases, rng):

@@ -12,7 +12,7 @@ from cases.line_writer import (
     BLANK, INFINITY, NANS, NEGATIVE_ZERO, SUBNORMAL, ZERO, bits, single, span)
 from checks import (
     broken_lists, closing_checks, conservation_checks, file_checks,
-    line_checks, tally_checks)
+    line_checks, preview_checks, tally_checks)
 
 SEED = 64
 LARGEST = 2 ** 64 - 1
@@ -134,14 +134,15 @@ WRITTEN_OUT = (
     ("14 1 18446744073709551615", "bad record 1"),
     ("12 18446744073709551615 1", "bad record 1"),
     ("12 2999 18446744073709551615; 14 2999 1", "18446744073709551615"),
-    ("18; 1", "bad record 1"),
-    ("1; 18 1; 1", "0; bad record 2"),
+    ("19; 1", "bad record 1"),
+    ("1; 19 1; 1", "0; bad record 2"),
 )
 
 
 def written_out(check):
     for text, lines in (WRITTEN_OUT + closing_checks.WRITTEN_OUT
-                        + file_checks.WRITTEN_OUT + line_checks.WRITTEN_OUT):
+                        + file_checks.WRITTEN_OUT + line_checks.WRITTEN_OUT
+                        + preview_checks.WRITTEN_OUT):
         data = b"".join(records.packed(line) for line in text.split(";"))
         output = "".join(line.strip() + "\n" for line in lines.split(";"))
         check(player.play(data) == output.encode("ascii"),
@@ -185,6 +186,8 @@ class BothWays:
             arguments = player.used_arguments(
                 name, player.with_cells(operation, arguments, cells))
             numbers = second_way(name, words, arguments)
+            if name == "preview":
+                numbers = player.with_unwritten(numbers, arguments[1])
             self.check(played == numbers, "the numbers by both ways", name,
                        arguments, played, numbers)
             self.check(state.words == words + after,
@@ -217,9 +220,10 @@ def cases_by_both_ways(check):
 # Random calls.
 
 ANY = (0, 1, 2, 3, 4, 5, 16, 17, 64, 65, 99, 100, 101, 256, 301, 499, 500, 501,
-       1000, 1001, 5000, 10_000, 10_001, 10 ** 6, 10 ** 6 + 1, 20_000_000,
-       40_000_000, 40_000_001, 5 * 10 ** 8, 10 ** 9, 10 ** 9 + 1, 10 ** 10,
-       10 ** 10 + 1, 10 ** 12, 10 ** 12 + 1, 2 ** 32, 2 ** 63, LARGEST)
+       511, 513, 1000, 1001, 5000, 10_000, 10_001, 10 ** 6, 10 ** 6 + 1,
+       20_000_000, 40_000_000, 40_000_001, 5 * 10 ** 8, 10 ** 9, 10 ** 9 + 1,
+       10 ** 10, 10 ** 10 + 1, 10 ** 12, 10 ** 12 + 1, 2 ** 32, 2 ** 63,
+       LARGEST)
 
 ANY_CELLS = (BLANK, span(2.0, 1.0), single(-1.0), single(1e7), span(0.0, 1e7),
              single(1e8), single(1e9), (bits(1e9) + 1,), NANS[:1],
@@ -242,12 +246,13 @@ USUAL = {
               (1, 500, 905_000, 40_000_000), (0, 1, 499, 500, 10 ** 9),
               (0, 1, 499, 500, 10 ** 9)),
     "close": ((1, 2, 3, 4),),
+    "preview": ((1, 2, 3, 4), (512,)),
     "statement": ((1, 2, 3, 10_000),),
     "intensity": ((1, 2, 3, 4), (0, 1, 2, 100)),
 }
 APPENDING = ("open", "post", "post", "line", "strike", "enrol", "enrol",
              "enrol", "enrol", "quote")
-NAMES = APPENDING * 5 + ("close",) + ("statement", "intensity") * 3
+NAMES = APPENDING * 5 + ("close",) + ("preview", "statement", "intensity") * 3
 
 
 def random_call(rng, strange, names=NAMES):
@@ -301,6 +306,7 @@ def random_calls(check):
         ("line", (0, 15, 16, 2, 3, 4, 6, 10)),
         ("strike", (0, 2, 4)), ("enrol", (0, 2, 3, 4, 6, 14, 7, 10)),
         ("quote", (0, 3, 7, 10)), ("close", (0, 2, 4, 9)),
+        ("preview", (0, 17, 2, 4, 9)),
         ("statement", (0, 3)), ("intensity", (0, 2, 3, 5, 9)),
     ):
         for number in numbers:
@@ -328,7 +334,7 @@ def check_change(check, name, numbers, before, words, case):
         return
     if name == "close":
         return
-    if name in ("statement", "intensity"):
+    if name in ("preview", "statement", "intensity"):
         check(changed == [], "it changes no word", case)
         return
     if name == "strike":
@@ -406,7 +412,8 @@ def check_unsound(check, words):
         ("line", (1, 0, *[single(0.0)] * 3)), ("strike", (0,)),
         ("enrol", (5, 1, 0, 1, 1, 0)), ("enrol", (0,) * 6),
         ("quote", (1, 0, 1, 1, 0, 0)), ("quote", (0,) * 6),
-        ("close", (1,)), ("close", (0,)), ("statement", (1,)),
+        ("close", (1,)), ("close", (0,)), ("preview", (1, 512)),
+        ("preview", (0, 511)), ("statement", (1,)),
         ("statement", (0,)), ("intensity", (1, 0)), ("intensity", (0, 3)),
     ):
         numbers = calls.make(name, words, *arguments)
@@ -438,6 +445,9 @@ def lengths(check):
             check(calls.make("line", sound, 1, 0, *[BLANK] * 3) == [15, 0],
                   "a blank cell in a short slice", length)
             check(calls.make("close", sound, 1) == [1], "short", length)
+            for pair_length in (0, 511, 512):
+                check(calls.make("preview", sound, 1, pair_length) == [1],
+                      "short", length, pair_length)
             check(calls.make("statement", sound, 1) == [1] + [0] * 5,
                   "short", length)
             check(calls.make("intensity", sound, 1, 0) == [1, 0, 0],
@@ -479,6 +489,7 @@ def run(check):
     closing_checks.run(check)
     tally_checks.by_hand(check)
     line_checks.run(check)
+    preview_checks.run(check)
     lengths(check)
     full_lists(check)
     random_calls(check)

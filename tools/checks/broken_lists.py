@@ -6,6 +6,8 @@ caught by what it breaks and not for want of agreement. Others are the lines
 of programs that go wrong.
 """
 
+from contextlib import contextmanager
+
 from calculation import calls, player
 from calculation.book import AMOUNTS, ELEMENTS, Book, word
 from calculation.workbook import nearest, values_of
@@ -429,15 +431,23 @@ def packed(record):
                     for words in own)
 
 
-def played_wrongly(records, name, act):
-    """The lines of a program that does this for the call."""
+@contextmanager
+def wrong_call(name, **parts):
+    """While it lasts, a call has other parts: `grounds`, `act` or
+    `answers`."""
     right = calls.CALLS[name]
-    calls.CALLS[name] = right._replace(act=act)
+    calls.CALLS[name] = right._replace(**parts)
     try:
-        data = b"".join(map(packed, records))
-        return player.play(data).decode("ascii").splitlines()
+        yield
     finally:
         calls.CALLS[name] = right
+
+
+def played_wrongly(records, name, act):
+    """The lines of a program that does this for the call."""
+    with wrong_call(name, act=act):
+        data = b"".join(map(packed, records))
+        return player.play(data).decode("ascii").splitlines()
 
 
 def wrong_programs(check, records):

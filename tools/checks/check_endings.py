@@ -58,6 +58,14 @@ BOOK = (
     + record(player.INTENSITY, 1, 100)
 )
 
+# A category that could be closed: a preview of it, and one that is refused.
+PREVIEWS = (
+    record(player.FRESH) + record(player.OPEN, 1)
+    + record(player.POST, 1, 0, 5, 6, 7) + record(player.ENROL, 1, 1, 0, 4, 5)
+    + record(player.PREVIEW, 1, 513) + record(player.PREVIEW, 1, 3)
+    + dump(0, 47)
+)
+
 
 def load(data):
     return b"".join(load_records(data))
@@ -323,8 +331,8 @@ def endings():
         add("operation %d first" % number, record(number, 1, 1) + THREE)
         add("operation %d after a division" % number,
             THREE + record(number) + THREE)
-    # 18 is none; 15 takes the next record.
-    add("operation 18 after a book", BOOK + record(18, 1) + BOOK)
+    # 19 is none; 15 takes the next record.
+    add("operation 19 after a book", BOOK + record(19, 1) + BOOK)
     add("operation 15 after a book", BOOK + record(15, 1) + BOOK)
     add("a second closing", BOOK + record(player.CLOSE, 1) + dump(0, 47))
     add("a closing and an intensity of none",
@@ -344,6 +352,24 @@ def endings():
             THREE + weight(1) * 3 + division(10, length) + division(10, 3))
     add("length 301, 300 weights", weight(1) * 300 + division(10, 301) + THREE)
 
+    # Lengths of the pair slice.
+    for length in (0, 1, 511, 512, 513, 600):
+        add("a preview with %d words" % length,
+            PREVIEWS + record(player.PREVIEW, 1, length) + PREVIEWS)
+        add("a preview with %d words before fresh" % length,
+            record(player.PREVIEW, 1, length) + THREE)
+    for length in (601, 602, 1024, 2 ** 16, 2 ** 16 + 512, 2 ** 32,
+                   2 ** 32 + 512, 2 ** 63 + 512, LARGEST):
+        add("a preview with %d words" % length,
+            record(player.PREVIEW, 1, length) + THREE)
+        add("a preview with %d words after a book" % length,
+            PREVIEWS + record(player.PREVIEW, 1, length) + PREVIEWS)
+    add("previews between weights",
+        weight(1) * 3 + PREVIEWS + division(10, 3) + PREVIEWS)
+    for lent in (0, 2659, 2660):
+        add("previews with %d words lent" % lent,
+            PREVIEWS + record(player.LEND, lent) + PREVIEWS)
+
     # The list of weights.
     add("301st weight", weight(1) * 301 + division(10, 300) + THREE)
     add("301st weight after a division", THREE + weight(1) * 301 + THREE)
@@ -361,7 +387,8 @@ def endings():
         add("%d bytes of a dump after a book" % left,
             BOOK + dump(0, 47)[:left])
         for operation in (player.OPEN, player.CLOSE, player.STATEMENT,
-                          player.INTENSITY, player.CELL, player.LINE):
+                          player.INTENSITY, player.CELL, player.LINE,
+                          player.PREVIEW):
             add("%d bytes of call %d after a book" % (left, operation),
                 BOOK + record(operation, 1)[:left])
     add("cut short after an unknown operation",
@@ -425,6 +452,7 @@ def main(arguments):
             ("cut short in pieces of %d bytes" % size,
              THREE * 4 + THREE[:100], size),
             ("a book in pieces of %d bytes" % size, BOOK * 4, size),
+            ("previews in pieces of %d bytes" % size, PREVIEWS * 4, size),
             ("lines in pieces of %d bytes" % size, LINES, size),
             ("loads in pieces of %d bytes" % size, LOADS, size),
             ("a file without its end in pieces of %d bytes" % size,

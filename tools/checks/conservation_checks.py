@@ -12,7 +12,8 @@ from calculation.tally import Tally
 from calculation.workbook import NoNumber
 from checks.exact_shares import check_exact_shares
 
-# The calls that the tally is fed. Statements and intensities change nothing.
+# The calls that the tally is fed. Previews, statements and intensities change
+# nothing.
 FED = (player.OPEN, player.POST, player.LINE, player.STRIKE, player.ENROL,
        player.QUOTE, player.CLOSE)
 
@@ -63,7 +64,7 @@ class Told:
             self.words.update(enumerate(numbers, arguments[0]))
         else:
             # "nobody else writes it meanwhile"
-            demand(operation == player.INTENSITY,
+            demand(operation in (player.PREVIEW, player.INTENSITY),
                    "operation", operation, "is none of a list")
 
     def feed(self, name, arguments, refusal):
