@@ -101,7 +101,8 @@ EXPECTED_RECORD = ("expected a line that begins with category, entry, "
 RECORD_OF_CALL = {"open": "category", "post": "entry", "enrol": "element"}
 CLOSING = ("write `close` at the end of the category's line, as in `category "
            "kind freight close`")
-PLAYED = ("strike", "statement", "intensity", "fresh", "load", "show")
+PLAYED = ("strike", "preview", "statement", "intensity", "fresh", "load",
+          "show")
 
 
 # Lines.

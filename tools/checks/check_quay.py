@@ -5,10 +5,11 @@ calculation.
     python3 tools/checks/check_quay.py [SEED]
 
 It wants the programs that `rt check` builds. The examples, random books, the
-same with damage, random lists of calls and random rows of a workbook are given
-to each command; status, output and messages have to be the same, and no
-difference may be told. The seed makes other books, lists and rows. Prints
-`N runs agree`, or the first difference with exit status 1.
+same with damage, random lists of calls, lists that preview and close random
+books and random rows of a workbook are given to each command; status, output
+and messages have to be the same, and no difference may be told. The seed makes
+other books, lists and rows. Prints `N runs agree`, or the first difference with
+exit status 1.
 """
 
 import os
@@ -19,12 +20,12 @@ import sys
 
 sys.path.insert(0, os.path.dirname(os.path.dirname(os.path.abspath(__file__))))
 
-from calculation.book import FACTORS, QUANTITIES
+from calculation.book import FACTORS, QUANTITIES, QUOTED
 from cases.random_cases import any_cell, by_bits, one_of, random_cell
 from cases.random_files import random_parts
 from checks.quay_runs import (
-    CLASS, DOCUMENT, FERRY, ROOT, VOYAGE, WHARF, WHARF_SHEET, calculated, run,
-    stored, text_of)
+    CLASS, DOCUMENT, FERRY, ROOT, TWO_LISTS, VOYAGE, WHARF, WHARF_SHEET,
+    calculated, run, stored, text_of)
 from command.cells import cell_text
 from command.main import BAD_TEXT, CANNOT, DIFFERENT, DONE, REFUSED
 from command.programs import PROVED
@@ -32,8 +33,13 @@ from command.programs import PROVED
 SEED = 1
 BOOKS = 120
 LISTS = 60
+CLOSED_BOOKS = 60
 FILES_OF_ROWS = 60
 QUAY = os.path.join(ROOT, "tools", "quay")
+
+POST = "post category %d group %d quantity %d operation %d provision %d"
+ENROL = "enrol category %d chain %d code %d amount %d distance %d"
+QUOTE = "quote chain %d mass %d distance %d operation %d provision %d"
 
 SHEETS = (("sheet",), ("sheet", "--tonnes"), ("sheet", "--csv"),
           ("sheet", "--csv", "--tonnes"))
@@ -53,10 +59,15 @@ def damaged(rng, parts):
     return parts
 
 
+def random_books(rng, count):
+    """The records of random books, every sixth a large one."""
+    for number in range(count):
+        yield random_parts(rng, (3, 6, 9) if number % 6 else (16, 64, 60))
+
+
 def books(rng):
     """Texts of books with names."""
-    for number in range(BOOKS):
-        parts = random_parts(rng, (3, 6, 9) if number % 6 else (16, 64, 60))
+    for parts in random_books(rng, BOOKS):
         for records in (parts, damaged(rng, parts), damaged(rng, parts)):
             yield "name 1 First\n%s\nname 10_000 Last" % text_of(*records)
 
@@ -86,25 +97,22 @@ def random_line(rng):
     chain = one_of(rng, (1, 2, 3))
     return one_of(rng, (
         "open %d" % rng.randrange(5),
-        "post category %d group %d quantity %d operation %d provision %d" % (
-            category, rng.randrange(3), by_bits(rng, 41), by_bits(rng, 34),
-            by_bits(rng, 34)),
+        POST % (category, rng.randrange(3), by_bits(rng, 41),
+                by_bits(rng, 34), by_bits(rng, 34)),
         "line category %d group %d %s %s %s" % (
             category, rng.randrange(3), *random_cells(rng)),
-        "enrol category %d chain %d code %d amount %d distance %d%s" % (
-            category, chain, one_of(rng, (0, 1, 2, 100, 250)),
-            by_bits(rng, 20), by_bits(rng, 26),
-            one_of(rng, ("", " kg 0", " kg 78", " kg %d" % (
-                1 + rng.randrange(301))))),
-        "quote chain %d mass %d distance %d operation %d provision %d" % (
-            chain, by_bits(rng, 30), by_bits(rng, 26), by_bits(rng, 30),
-            by_bits(rng, 30)),
+        ENROL % (category, chain, one_of(rng, (0, 1, 2, 100, 250)),
+                 by_bits(rng, 20), by_bits(rng, 26))
+        + one_of(rng, ("", " kg 0", " kg 78",
+                       " kg %d" % (1 + rng.randrange(301)))),
+        QUOTE % (chain, by_bits(rng, 30), by_bits(rng, 26), by_bits(rng, 30),
+                 by_bits(rng, 30)),
         "strike %d" % (1 + rng.randrange(6)), "close %d" % category,
-        "statement %d" % chain,
+        "preview %d" % category, "statement %d" % chain,
         "intensity %d %d" % (category, one_of(rng, (0, 1, 2, 100))),
         "show", "sheet",
         "load " + one_of(rng, (DOCUMENT, VOYAGE, FERRY, "# none")),
-    )[:11 + (rng.randrange(20) == 0)])
+    )[:12 + (rng.randrange(20) == 0)])
 
 
 def lists(rng):
@@ -112,6 +120,29 @@ def lists(rng):
     for _ in range(LISTS):
         lines = ["open %d" % (1 + rng.randrange(4)) for _ in range(3)]
         yield "\n".join(lines + [random_line(rng) for _ in range(60)])
+
+
+def closed_books(rng):
+    """Lists that make random books, each category closed between two
+    previews."""
+    for categories, entries, elements in random_books(rng, CLOSED_BOOKS):
+        lines = ["open %d" % kind for kind, _ in categories]
+        lines += [POST % record for record in entries]
+        lines += [element_call(*record) for record in elements]
+        for category in range(1, 1 + len(categories)):
+            lines += ["%s %d" % (word, category)
+                      for word in ("preview", "close", "preview")]
+        yield "\n".join(lines)
+
+
+def element_call(category, chain, code, adjust, amount, distance,
+                 *intensities):
+    """The call of an element's record; of passengers `adjust` is the kg."""
+    if category == QUOTED:
+        return "%s adjust %d" % (QUOTE % (chain, amount, distance,
+                                          *intensities), adjust)
+    return "%s kg %d" % (ENROL % (category, chain, code, amount, distance),
+                         adjust)
 
 
 def runs(seed):
@@ -122,13 +153,14 @@ def runs(seed):
             yield (*words, path), ""
         for chain in range(40):
             yield ("explain", path, str(chain)), ""
-    yield ("play", CLASS), ""
+    for path in (CLASS, TWO_LISTS):
+        yield ("play", path), ""
     for text in books(rng):
         for words in SHEETS:
             yield (*words, "-"), text
         for chain in (1, 2, 10_000):
             yield ("explain", "-", str(chain)), text
-    for text in lists(rng):
+    for text in (*lists(rng), *closed_books(rng)):
         yield ("play",), text
     for place in (("1", "all"), ("1", "9"), ("2", "all")):
         yield ("lines", WHARF, WHARF_SHEET, *place), ""
@@ -163,6 +195,8 @@ def as_a_command():
     for words, status, output in (
         (("sheet", DOCUMENT), DONE, stored("crates", "quaymeter", "stdout")),
         (("play", CLASS), REFUSED, stored("examples", "class-answers.txt")),
+        (("play", TWO_LISTS), DONE,
+         stored("examples", "two-lists-answers.txt")),
         (("lines", WHARF, WHARF_SHEET, "1", "all"), REFUSED,
          stored("examples", "wharf-answers.txt")),
         (("sheet", QUAY), BAD_TEXT, ""),

@@ -412,8 +412,8 @@ def calls_in_a_text():
                          ("enrol", "element")):
         bad(word + " 1", "no record is called `%s`" % word,
             "has `%s` for it" % record)
-    for word in ("strike", "statement", "intensity", "fresh", "load", "show",
-                 "line"):
+    for word in ("strike", "preview", "statement", "intensity", "fresh",
+                 "load", "show", "line"):
         bad(word + " 1", "no record is called `%s`" % word,
             "`tools/quay play`")
     bad("line category 1 group all 1 2 3", "no record is called `line`",

@@ -23,8 +23,8 @@ from cases.line_writer import bits
 from checks import explain_checks, refusal_checks, row_checks
 from checks.checking import Checks
 from checks.quay_runs import (
-    BOARD, CALCULATED, CLASS, DOCUMENT, EXAMPLES, FERRY, ROOT, VOYAGE, WHARF,
-    WHARF_SHEET, calculated, run, stored, tells_difference)
+    BOARD, CALCULATED, CLASS, DOCUMENT, EXAMPLES, FERRY, ROOT, TWO_LISTS,
+    VOYAGE, WHARF, WHARF_SHEET, calculated, run, stored, tells_difference)
 from command import (
     amounts, explaining, main, playing, programs, refusals, sheets)
 from command.fields import Wrong
@@ -442,6 +442,30 @@ def class_list():
     check(numbers == {*"2345679", "14", "15", "16"}, "its refusals", numbers)
 
 
+def two_lists():
+    """Both are previewed, and README says what the second changes."""
+    status, output, told = run("play", TWO_LISTS)
+    check((status, told) == (0, "")
+          and output == stored("examples", "two-lists-answers.txt"),
+          "two lists", status, output, told)
+    page = " ".join(stored("README.md").split())
+    previews = previews_in(output)
+    check(len(previews) == 2, "one of each", previews)
+    for name, *totals in (("Coastal Dairies", "34.02", "22.68"),
+                          ("Harbour Mills", "11.34", "7.56")):
+        for preview, total in zip(previews, totals):
+            check(re.search(r"\(%s\) .* would hold .* %s$" % (
+                name, re.escape(total)), preview, re.M), "a total", name,
+                preview)
+        check("%s with %s t instead of %s t" % (name, *totals[::-1]) in page,
+              "README's totals", name, totals)
+
+
+def previews_in(transcript):
+    """Each preview of category 1 with its answer."""
+    return re.findall(r"^> preview 1\n(?:[^>\n].*\n)+", transcript, re.M)
+
+
 def answers(*lines):
     session = playing.Session(CALCULATED)
     return [session.answer(playing.request_of(line)) for line in lines]
@@ -547,6 +571,76 @@ def accepted_calls():
           == "chain 9: no element is on it", "names after fresh")
     answered("open 1", POST, QUOTE, "show", "\n".join(
         lines[0] for lines in answers("open 1", POST, QUOTE)))
+
+
+# Elements of the category, of an open one, of a closed one and of none, and
+# entries, one of them struck.
+PREVIEWED = (
+    "name 7 Mills", "open both", "open hub", "open 2",
+    ENROL, ENROL.replace("category 1", "category 2").replace("20", "0"),
+    SEATS.replace("category 1", "category 3").replace("7", "12"),
+    POST.replace("category 1 group 1", "category 3 group all"), "close 3",
+    QUOTE, POST, POST, "strike 3", POST.replace("group 1", "group all"),
+    SEATS.replace("7", "9999").replace("amount 10", "amount 1") + " kg 10",
+    POST.replace("category 1", "category 2"))
+
+
+def previews():
+    # Freight and passengers get half of what benefits all: 200 kg m each.
+    table = """\
+category 1: freight and passengers, open
+    element  chain      what                 category               operation \
+t  provision t       total t
+          1  7 (Mills)  chilled freight             1  would hold  0.0000000045\
+  0.000000003  0.0000000075
+          2  7 (Mills)  chilled freight             2  waits       0           \
+  0            0
+          3  12         passenger class 100         3  holds       0.000000003 \
+  0.000000002  0.000000005
+          4  7 (Mills)  quoted                   none  holds       0.0000006   \
+  0.0000001    0.0000007
+          5  9999       passenger class 100         1  would hold  0.0000000015\
+  0.000000001  0.0000000025
+    all would be handed out: operation 6_000 µg (0.000000006 t), provision \
+4_000 µg (0.000000004 t)"""
+    for line in ("preview 1", "preview category 1", "Preview  Category 1 # 2"):
+        answered(*PREVIEWED, line, table)
+    answered("open 4", ENROL.replace("20", "0"), "preview 1", """\
+category 1: freight hub, open
+    element  chain  what             category              operation t  \
+provision t  total t
+          1  7      chilled freight         1  would hold            0  \
+          0        0
+    it has no entry that is not struck: every share would be 0""")
+    found = answers("open 1", *[ENROL] * 256, "preview 1")[-1]
+    check(len(found) == 259 and found[-2].startswith("        256  7 "),
+          "a full book", found[-2:])
+    voyage = answers("load " + VOYAGE, "preview 6")[-1]
+    check([sum(word in line for line in voyage) for word in (
+        "  would hold  ", "  holds  ", "  waits  ")] == [3, 36, 0], "a voyage",
+        voyage)
+
+
+def previews_and_closings():
+    """A preview leaves the book as it is, and the closing gives what it
+    shows. It is saved where it is accepted."""
+    session = playing.Session(CALCULATED)
+    for line in PREVIEWED:
+        session.answer(playing.request_of(line))
+    for category in (1, 2):
+        before = list(session.ledger.words)
+        session.answer(playing.request_of("preview %d" % category))
+        check(session.ledger.words == before, "the same book", category)
+        _, *pairs = session.ledger.call("preview", (category,))
+        check(len(pairs) == 512 and not any(pairs[10:]), "its pairs", pairs)
+        session.answer(playing.request_of("close %d" % category))
+        check(book.Book(before).elements != session.ledger.book.elements
+              == playing.previewed(before, pairs).elements, "closed", category,
+              pairs)
+        session.answer(playing.request_of("preview %d" % category))
+    check(session.refused == 2 and session.lines[len(PREVIEWED):] == [
+        "preview 1", "close 1", "preview 2", "close 2"], "what is saved",
+        session.lines)
 
 
 def looking():
@@ -742,6 +836,16 @@ def bad_lines():
              "(0), chilled (1), frozen (2) or lowest (100); a call is "
              "`intensity 1 ambient`")
     bad_line("close 1 category 1", "`category` stands twice")
+    bad_line("preview", "missing: category", "expected preview with category; "
+             "a call is `preview 1`")
+    bad_line("preview all", "`all` after `category` is not a whole number",
+             "`category` is a number, from 1 on in their order; a call is "
+             "`preview 1`")
+    bad_line("preview 1 2", "`2` has no word before it that says what it is")
+    bad_line("preview 1 category 1", "`category` stands twice")
+    bad_line("preview 1 code 0", "`code` is no word of `preview`")
+    bad_line("preview 1.5", "there are no decimals")
+    bad_line("preveiw 1", "no call is `preveiw`; did you mean `preview`?")
     bad_line("post 1 all 5 5 5", "`1` has no word before it",
              "post with category, group, quantity")
     bad_line("post category 1", "missing: group, quantity, operation and")
@@ -890,6 +994,8 @@ line       posts a line from the Wharf Sheet, the old workbook, to a category
 strike     strikes an entry, by its number
 enrol      enrols freight or passengers of a chain in a category
 quote      quotes a leg of another carrier, in no category
+preview    shows what every element would hold after a closing, and closes \
+nothing
 close      closes a category: its elements get their shares
 statement  shows what a chain is charged with
 intensity  shows the intensity of a closed category, for ambient, chilled, \
@@ -924,6 +1030,14 @@ strike: strikes an entry, by its number
     strike 2
     an entry is struck once and stays struck; its number is not given again
     expected strike with entry
+""",
+    "preview": """\
+preview: shows what every element would hold after a closing, and closes nothing
+    preview 1
+    the book stays as it is; what is not of the category is shown with what it \
+holds now
+    expected preview with category
+    category is a number, from 1 on in their order
 """,
     "close": """\
 close: closes a category: its elements get their shares
@@ -1037,7 +1151,8 @@ def lists():
 line 2: no call is `opne`; did you mean `open`?
     opne 2
     expected a line that begins with open, post, line, strike, enrol, quote, \
-close, statement, intensity, fresh, load, show, sheet, name, save, help, quit
+preview, close, statement, intensity, fresh, load, show, sheet, name, save, \
+help, quit
 line 3: missing: category
     close
     expected close with category; a call is `close 1`
@@ -1276,6 +1391,24 @@ def differences_of_calls():
          "`0 2` to `enrol 1 7 100 10 20 78`, and `14 0` is reckoned here"),
         (("open 1", POST, ENROL, "close 1", "intensity 1 0"),
          b"\n0 15000 10000\n", b"\n0 15000\n", "`0 15000` to `intensity 1 0`"),
+        # Another pair, one past the last element, and fewer of them.
+        *((("open 1", POST, ENROL, "preview 1"), b"\n0 3000 2000 0 ", wrong,
+           what) for wrong, what in (
+               (b"\n0 3000 2001 0 ", "after `preview 1` replay shows 2001 in "
+                "pair 1, provision, and 2000 is reckoned here"),
+               (b"\n0 3000 2000 7 ", "after `preview 1` replay shows 7 in pair "
+                "2, operation, and 0 is reckoned here"),
+               (b"\n0 3000 2000 ", "replay answers `0 3000 2000 0 0 "),
+               (b"\n4 3000 2000 0 ", "replay answers `4 3000 2000 0 0 "))),
+        # A preview that closes, and refused ones: with another number, and
+        # one that writes a pair.
+        (("open 1", POST, ENROL, "preview 1"), b" 0 0 0\n14083 1 1 1 1 0 ",
+         b" 0 0 0\n14083 1 1 1 1 1 ", "after `preview 1` replay shows 1 in the "
+         "book's category 1, closed, and 0 is reckoned here"),
+        (("open 1", "preview 1"), b"\n9 7 7 ", b"\n17 7 7 ", " ...` to `preview "
+         "1`, and `9 7 7 "),
+        (("open 1", "preview 1"), b"\n9 7 7 ", b"\n9 7 0 ", "after `preview 1` "
+         "replay shows 0 in pair 1, provision, and 7 is reckoned here"),
     ):
         replay = calculated().replay
         session = playing.Session(Programs(
@@ -1299,6 +1432,15 @@ def differences_of_calls():
             check, "the lines add up to `%s`, and the book's elements to `5 3 "
             "7 700000000 700000007`" % " ".join(map(str, sums)),
             sheets.with_total, [sheets.Row(*wrong), *rows[1:]], ledger)
+    pairs = [getattr(element, amount) for element in ledger.book.elements
+             for amount in book.AMOUNTS]
+    for place, sums in ((0, "8 700000000"), (3, "7 700000001")):
+        wrong = list(pairs)
+        wrong[place] += 1
+        tells_difference(
+            check, "the shares of category 1 add up to `%s`, and its entries to "
+            "`7 700000000`" % sums, playing.handed_out,
+            playing.previewed(ledger.words, wrong), 1, "is")
 
 
 # Outputs that cannot be written.
@@ -1378,7 +1520,7 @@ def help_texts():
          "enrol category 2 chain 9 code lowest amount 40 distance 300_000 kg "
          "78",
          "line category 1 group all quantity 12.5 operation 3.1..3.4 provision "
-         "0.56",
+         "0.56", "strike 1 preview 1 close 1",
          "a list of calls; without it they are typed"),
         ("explain", "Shows how a chain's shares came about, element by element",
          "Each result is compared with that of the proved program",
@@ -1434,6 +1576,8 @@ def documents():
     for page, output in (
         ("README.md", DOCUMENT_TABLE), ("README.md", REFUSED_TOLD),
         ("README.md", run("play", text=("open freight\n" + line).encode())[1]),
+        *[("README.md", preview) for preview
+          in previews_in(run("play", TWO_LISTS)[1])],
         (os.path.join("docs", "BOOKS.md"),
          run("sheet", "-", text=text.encode())[2]),
     ):
@@ -1456,7 +1600,10 @@ stored_explanations()
 board()
 ferry()
 class_list()
+two_lists()
 accepted_calls()
+previews()
+previews_and_closings()
 looking()
 whole_sheets()
 saves()

@@ -41,6 +41,7 @@ CALLS = {
                   "provision"), (),
         "quote chain 7 mass 1_000 distance 500_000 operation 62_000 "
         "provision 10_000"),
+    "preview": Form((CATEGORY,), ("category",), "preview 1"),
     "close": Form((CATEGORY,), ("category",), "close 1"),
     "statement": Form((CHAIN,), ("chain",), "statement 7"),
     "intensity": Form((CATEGORY, needed("code")), ("category", "code"),

@@ -6,7 +6,7 @@ each word is compared with the separate calculation's.
 from collections import namedtuple
 
 from calculation import calls, loading, player
-from calculation.book import LENGTH, LISTINGS, Book, size
+from calculation.book import AMOUNTS, LENGTH, LISTINGS, Book, size
 from cases.file_writer import load_records
 from cases.line_writer import line_records
 from command.cells import cell_text
@@ -31,6 +31,8 @@ Item = namedtuple("Item", "told records reckon")
 
 def call_item(name, arguments):
     """A call. The cells of a line come in the records before it."""
+    if name == "preview":
+        return preview_item(*arguments)
     records, told = [(OPERATIONS[name], *arguments)], arguments
     if name == "line":
         category, group, *cells = arguments
@@ -40,6 +42,17 @@ def call_item(name, arguments):
                 b"".join(call_record(*words[:1], words[1:])
                          for words in records),
                 lambda words: calls.make(name, words, *arguments))
+
+
+def preview_item(category):
+    """A preview, with room for its pairs and no more. All of the room is
+    shown, also where it is refused."""
+    arguments = category, calls.PAIR_WORDS
+    return Item("preview %d" % category,
+                call_record(player.PREVIEW, arguments),
+                lambda words: player.with_unwritten(
+                    calls.make("preview", words, *arguments),
+                    calls.PAIR_WORDS))
 
 
 def lines_of(output):
@@ -150,27 +163,42 @@ def divided(programs, pool, weights):
 # Comparisons.
 
 def compare_answer(told, numbers, reckoned):
-    if numbers != list(reckoned):
+    """The pairs of a preview are compared word by word."""
+    if (numbers[:1] == reckoned[:1]
+            and len(numbers) == len(reckoned) == 1 + calls.PAIR_WORDS):
+        compare_each(told, numbers[1:], reckoned[1:], called_in_pairs)
+    elif numbers != list(reckoned):
         raise Differs("replay answers `%s` to `%s`, and `%s` is reckoned here"
-                      % (in_line(numbers), told.strip(), in_line(reckoned)))
+                      % (shown(in_line(numbers)), told.strip(),
+                         shown(in_line(reckoned))))
 
 
 def compare_words(told, words, reckoned):
     if len(words) != len(reckoned):
         raise Differs("replay shows %d words of a book" % len(words))
+    compare_each(told, words, reckoned, called_in_book)
+
+
+def compare_each(told, words, reckoned, called):
     for place, (word, expected) in enumerate(zip(words, reckoned)):
         if word != expected:
-            raise Differs("after `%s` replay shows %d in the book's %s, and %d "
-                          "is reckoned here" % (told.strip(), word,
-                                                called(place), expected))
+            raise Differs("after `%s` replay shows %d in %s, and %d is "
+                          "reckoned here" % (told.strip(), word, called(place),
+                                             expected))
 
 
-def called(place):
-    """What a word of the book is called, by its place."""
+# What a word is called, by its place.
+
+def called_in_pairs(place):
+    pair, amount = divmod(place, len(AMOUNTS))
+    return "pair %d, %s" % (pair + 1, AMOUNTS[amount])
+
+
+def called_in_book(place):
     for listing in reversed(LISTINGS):
         if place >= listing.start:
             record, field = divmod(place - listing.start, size(listing))
-            return "%s %d, %s" % (
+            return "the book's %s %d, %s" % (
                 listing.form.__name__.lower(), record + 1,
                 listing.form._fields[field].replace("_", " "))
-    return "word %d" % place
+    return "the book's word %d" % place

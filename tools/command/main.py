@@ -66,6 +66,7 @@ answered in words; a refused call changes nothing and can be tried again. Only
     quote chain 7 mass 1_000 distance 500_000 operation 62_000 provision 10_000
     line category 1 group all quantity 12.5 operation 3.1..3.4 provision 0.56
     strike 1
+    preview 1
     close 1
     statement 7
     intensity 1 ambient

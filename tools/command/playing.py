@@ -6,15 +6,17 @@ from collections import namedtuple
 
 import pack
 from calculation import book
-from command.amounts import counted, emissions, grouped, moved
+from command.amounts import (
+    LEFT, POINT, RIGHT, aligned, counted, emissions, grouped, moved, tonnes)
 from command.calls import CALLS, OTHERS, call_of, no_such_word
 from command.cells import PLACES, by_exact_value, conversion
 from command.fields import (
     VALUES, Wrong, as_thousands, expected_fields, listed, numbered, printable,
     shown)
-from command.ledger import Ledger
+from command.ledger import Ledger, in_line
 from command.naming import (
     carried, code_words, group_words, kind_words, plainly_called, with_name)
+from command.programs import Differs
 from command.refusals import of_call
 from command.sheets import refusal, remarks, statements, table, with_total
 from command.texts import Unreadable, read, without_comment, without_remark
@@ -193,17 +195,64 @@ def told_close(session, arguments, numbers):
         yield "    " + element_line(held, session.names, number)
     if len(members) > MOST_SHOWN:
         yield "    and %d more: see `show`" % (len(members) - MOST_SHOWN)
-    yield handed_out(held, category)
+    yield handed_out(held, category, "is")
 
 
-def handed_out(held, category):
-    """What the shares of a closed category add up to: its unstruck entries.
-    """
-    if not book.unstruck(held.entries_of(category)):
-        return "    it has no entry that is not struck: every share is 0"
-    return "    all is handed out: operation %s, provision %s" % tuple(
-        emissions(book.total(held.elements_of(category), amount))
-        for amount in book.AMOUNTS)
+def handed_out(held, category, verb):
+    """What the shares of a category add up to: its unstruck entries."""
+    entries = book.unstruck(held.entries_of(category))
+    sums, posted = ([book.total(records, amount) for amount in book.AMOUNTS]
+                    for records in (held.elements_of(category), entries))
+    if sums != posted:
+        raise Differs("the shares of category %d add up to `%s`, and its "
+                      "entries to `%s`" % (category, in_line(sums),
+                                           in_line(posted)))
+    if not entries:
+        return ("    it has no entry that is not struck: every share %s 0"
+                % verb)
+    return "    all %s handed out: operation %s, provision %s" % (
+        verb, *map(emissions, sums))
+
+
+def told_preview(session, arguments, numbers):
+    category, = arguments
+    held = previewed(session.ledger.words, numbers)
+    yield category_line(held, category)
+    for line in holdings(held, category, session.names):
+        yield "    " + line
+    yield handed_out(held, category, "would be")
+
+
+def previewed(words, numbers):
+    """The book with what each element holds in a preview's pairs."""
+    held = book.Book(words)
+    held.elements = [
+        element._replace(operation=operation, provision=provision)
+        for element, operation, provision
+        in zip(held.elements, numbers[::2], numbers[1::2])]
+    return held
+
+
+HEADING = ["element", "chain", "what", "category", "", "operation t",
+           "provision t", "total t"]
+SIDES = [RIGHT, LEFT, LEFT, RIGHT, LEFT] + [POINT] * 3
+
+
+def holdings(held, category, names):
+    """The lines of a table: what each element would hold after the closing of
+    a category, or holds where it is of no or another one."""
+    rows = [HEADING]
+    for number, element in enumerate(held.elements, 1):
+        quoted = element.category == book.QUOTED
+        amounts = element.operation, element.provision
+        rows.append([
+            str(number), with_name(names, element.chain),
+            "quoted" if quoted else code_words(element.code),
+            "none" if quoted else str(element.category),
+            "would hold" if element.category == category
+            else "waits" if held.is_open(element.category) else "holds",
+            *map(tonnes, (*amounts, sum(amounts)))])
+    return aligned(rows, SIDES)
 
 
 def told_fresh(session, arguments, numbers):
@@ -245,8 +294,8 @@ def told_intensity(session, arguments, numbers):
 ANSWERS = {
     "fresh": told_fresh, "open": told_category, "post": told_entry,
     "line": told_line, "strike": told_strike, "enrol": told_element,
-    "quote": told_quote, "close": told_close, "statement": told_statement,
-    "intensity": told_intensity,
+    "quote": told_quote, "preview": told_preview, "close": told_close,
+    "statement": told_statement, "intensity": told_intensity,
 }
 
 
@@ -375,6 +424,8 @@ WHAT_FOR = {
     "strike": "strikes an entry, by its number",
     "enrol": "enrols freight or passengers of a chain in a category",
     "quote": "quotes a leg of another carrier, in no category",
+    "preview": "shows what every element would hold after a closing, and "
+               "closes nothing",
     "close": "closes a category: its elements get their shares",
     "statement": "shows what a chain is charged with",
     "intensity": "shows the intensity of a closed category, for ambient, "
@@ -401,6 +452,8 @@ MORE = {
               "given again",
     "enrol": "the passengers of a category are all weighed, each element with "
              "its `kg`, or none is",
+    "preview": "the book stays as it is; what is not of the category is shown "
+               "with what it holds now",
     "close": "it stays closed, and takes no more entries, elements or strikes",
     "intensity": "it is in whole mg: what benefits all and what benefits the "
                  "group are rounded apart, halves up, and then added",

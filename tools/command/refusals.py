@@ -42,6 +42,7 @@ MEANINGS = {
     15: "a cell is blank, or its double is not finite, below zero or above its "
         "limit: 10^9 units, 10^7 g per unit",
     16: "the second double of a span is below its first",
+    17: "the pair slice of a preview is shorter than 512 words",
 }
 
 # How one speaks of records: how one is called, from its table's word and its
@@ -130,7 +131,7 @@ def closed_or_struck(refused):
     if refused.book.is_closed(category):
         yield Reason(
             "%s is closed" % refused.called("category", category)
-            + {"close": " already",
+            + {"preview": " already", "close": " already",
                "strike": ", and entry %s is of it" % entry}.get(
                    refused.name, ""),
             "its emissions are handed out, and it takes no more entries, "
