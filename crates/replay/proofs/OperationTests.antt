@@ -14,7 +14,7 @@ use Rattle.replay.specs.declared.records.Words.{Words}
 use Rattle.replay.specs.declared.state.State.{State}
 use Rattle.replay.specs.Answers.{Answered, answeredOf, answered}
 use Rattle.replay.specs.Text.{numbersLine}
-use Rattle.replay.specs.Replay.{arrayLength, room, withCount, withText, returned, called, division, divisionDone, pairRoom, previewed, previewDone}
+use Rattle.replay.specs.Replay.{arrayLength, room, withCount, withText, returned, called, division, divisionDone, pairRoom, previewNumbers, previewDone}
 use Rattle.replay.specs.Stages.{stageOf, onMachine}
 
 -- what is made of the one or the other
@@ -85,7 +85,7 @@ divide-good pool size n memory file buffer state h n-is =
 
 -- operation 18 on the first `lent` words
 pub preview-good : (category size lent : ℕ) (memory file buffer : List ℕ) (state : State) → size ≤ pairRoom → lent ≡ min (state .lent) arrayLength
-    → onMachine (withText (numbersLine (previewed category (take lent memory) (drop 1 (take (size + 1) (replicate (pairRoom + 1) 7))))))
+    → onMachine (withText (numbersLine (previewNumbers category (take lent memory) (drop 1 (take (size + 1) (replicate (pairRoom + 1) 7))))))
     (stageOf memory file buffer state)
     ≡ onMachine (previewDone category size) (stageOf memory file buffer state)
 unfolding previewDone

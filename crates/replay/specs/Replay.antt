@@ -149,13 +149,13 @@ abbrev pub pairRoom : ℕ
 pairRoom = 600
 
 -- the numbers of a preview: the refusal number, and the slice of pairs after the call
-abbrev pub previewed : ℕ → List ℕ → List ℕ → List ℕ
-previewed category ws pairs = previewRefusal ws pairs category ∷ previewPairs ws pairs category
+abbrev pub previewNumbers : ℕ → List ℕ → List ℕ → List ℕ
+previewNumbers category ws pairs = previewRefusal ws pairs category ∷ previewPairs ws pairs category
 
 -- operation 18: a preview on the lent words, into `size` words of pairs, each of which is 7 before
 unfoldable pub previewDone : ℕ → ℕ → Machine → Machine
 previewDone category size machine =
-    cond (leb size pairRoom) (withText (numbersLine (previewed category (lentWords machine) (replicate size 7))) machine) (bad machine)
+    cond (leb size pairRoom) (withText (numbersLine (previewNumbers category (lentWords machine) (replicate size 7))) machine) (bad machine)
 
 -- what an operation does with the words of its record, 15 with the bytes of its file
 unfoldable pub performed : ℕ → Words → List ℕ → Machine → Machine

@@ -4,7 +4,7 @@ ghost use mathlib.Core.List.{List};
 ghost use Prim.Native.Nat.{ℕ, _+_, _<_};
 ghost use lib.ListN.{length, drop};
 ghost use Rattle.replay.specs.Text.{numbersLine};
-ghost use Rattle.replay.specs.Replay.{arrayLength, room, withText, previewed, previewDone};
+ghost use Rattle.replay.specs.Replay.{arrayLength, room, withText, previewNumbers, previewDone};
 ghost use Rattle.replay.specs.Stages.{stageOf, onMachine};
 use crate::memory;
 use crate::output;
@@ -45,9 +45,9 @@ fn print_preview(
     state: State,
 ) -> State
     requires { ⌜ 0 < length (now line) ⌝ }
-    ensures { λ _. ⌜ now (line .exit) ≡ previewed category (now (book .entry)) (drop 1 (now (line .entry))) ⌝ }
+    ensures { λ _. ⌜ now (line .exit) ≡ previewNumbers category (now (book .entry)) (drop 1 (now (line .entry))) ⌝ }
     ensures { λ r. ⌜ ((memory file : List ℕ) → stageOf memory file (now (buffer .exit)) r
-        ≡ onMachine (withText (numbersLine (previewed category (now (book .entry)) (drop 1 (now (line .entry))))))
+        ≡ onMachine (withText (numbersLine (previewNumbers category (now (book .entry)) (drop 1 (now (line .entry))))))
         (stageOf memory file (now (buffer .entry)) state)) ⌝ }
 {
     line[0] = book::preview(book, &mut line[1..], category);
