@@ -24,13 +24,18 @@ def category(cases, kind, entries, elements):
 
 
 def closed(cases, kind, entries, elements, operation, provision):
-    """A new category that is closed with these shares, after a preview that
-    shows them: its number."""
+    """A new category that is closed with these shares: its number."""
     number = category(cases, kind, entries, elements)
+    close_with(cases, number, operation, provision)
+    return number
+
+
+def close_with(cases, number, operation, provision):
+    """Closes a category with these shares, after a preview that shows
+    them."""
     cases.preview_shares(number, operation, provision)
     cases.close(number)
     cases.shares_are(number, operation, provision)
-    return number
 
 
 # What is divided.
@@ -176,27 +181,23 @@ def struck_entries(cases):
         [(0, 100, 1), (1, 100, 1), (2, 100, 1), (100, 1, 1)])
     for entry in (1, 3, 5):
         cases.strike(entry)
-    cases.close(number)
-    cases.shares_are(number, (3, 6, 2, 2), (2, 7, 2, 2))
+    close_with(cases, number, (3, 6, 2, 2), (2, 7, 2, 2))
     cases.intensities(number)
     # All are struck.
     number = category(cases, 1, [(0, 50, 1), (1, 3, 3)], [(0, 1, 1)])
     for entry in (6, 7):
         cases.strike(entry)
-    cases.close(number)
-    cases.shares_are(number, (0,), (0,))
+    close_with(cases, number, (0,), (0,))
     cases.intensity(number, 0, shows=(0, 0))
     # Group 0 is struck, the groups are not; and the other way round.
     number = category(cases, 4, [(0, 50, 1), (1, 3, 4)],
                       [(0, 2, 0), (1, 2, 0)])
     cases.strike(8)
-    cases.close(number)
-    cases.shares_are(number, (0, 3), (0, 4))
+    close_with(cases, number, (0, 3), (0, 4))
     number = category(cases, 4, [(0, 50, 1), (1, 3, 4)],
                       [(0, 2, 0), (1, 2, 0)])
     cases.strike(11)
-    cases.close(number)
-    cases.shares_are(number, (25, 25), (1, 0))
+    close_with(cases, number, (25, 25), (1, 0))
     cases.intensities(number)
     cases.dump_all()
 
@@ -540,8 +541,7 @@ def not_hindered(cases):
     cases.strike(first + 1)
     cases.close(number, gives=9)
     cases.strike(first + 2)
-    cases.close(number)
-    cases.shares_are(number, (4,), (5,))
+    close_with(cases, number, (4,), (5,))
     cases.dump_all()
 
 

@@ -9,7 +9,7 @@ from calculation import book, player
 from calculation.book import CATEGORIES, ELEMENTS, word
 from cases.book_writer import (
     ACTIVITY, EMISSIONS, FARTHEST, LARGEST, SOUND, UNSOUND)
-from cases.closing_cases import HEADS, MASS, category, closed
+from cases.closing_cases import HEADS, MASS, category, close_with, closed
 
 # In range, and out of it: some are a stated mass in their lowest 8, 16, 32 or
 # 63 bits.
@@ -681,10 +681,9 @@ def most_weight(cases):
     cases.new_book()
     category(cases, 3, [(0, 11 * 10 ** 16, 22)],
              [(1, MASS, FARTHEST)] + [(100, HEADS, FARTHEST, 300)] * 15)
-    cases.close(1)
     part = 9 * 10 ** 16 // 15
-    cases.shares_are(1, [2 * 10 ** 16] + [part] * 15,
-                     [4] + [2] * 3 + [1] * 12)
+    close_with(cases, 1, [2 * 10 ** 16] + [part] * 15,
+               [4] + [2] * 3 + [1] * 12)
     cases.intensities(1)
     cases.dump_book()
 
