@@ -75,9 +75,13 @@ def by_turns(number):
     return sort(number)
 
 
-def full(element):
-    return ([(FRESH,)] + [(OPEN, BOTH)] * 16 + entries()
-            + [element(number) for number in range(256)])
+def elements(element):
+    return [element(number) for number in range(256)]
+
+
+def full(element, posts=None):
+    return ([(FRESH,)] + [(OPEN, BOTH)] * 16 + (posts or entries())
+            + elements(element))
 
 
 def closings():
