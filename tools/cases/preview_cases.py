@@ -2,8 +2,8 @@
 that the book stays the same, grounds and their order.
 
 Where pairs are given, they are reckoned by hand: operation and provision of
-each element, in the order of the elements. Every closing of closing_cases.py
-and weighed_cases.py whose shares are reckoned by hand has its preview there.
+each element, in the order of the elements. The closings of closing_cases.py
+and weighed_cases.py that are made by close_with have their previews there.
 """
 
 from calculation import player

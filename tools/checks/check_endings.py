@@ -11,6 +11,7 @@ import os
 import subprocess
 import sys
 import time
+from itertools import islice
 
 sys.path.insert(0, os.path.dirname(os.path.dirname(os.path.abspath(__file__))))
 
@@ -411,6 +412,21 @@ def run(program, data):
     done = subprocess.run([program], input=data, stdout=subprocess.PIPE,
                           timeout=SECONDS)
     return done.stdout, done.returncode
+
+
+def in_parts(found, size, agreed):
+    """How many were found, and the sum of what `agreed` answers: it runs the
+    program on so many at a time."""
+    played = counted = 0
+    while some := list(islice(found, size)):
+        try:
+            counted += agreed(some)
+        except subprocess.TimeoutExpired:
+            raise SystemExit("no end within %d seconds" % SECONDS)
+        except OSError as error:
+            raise SystemExit("the program does not run: %s" % error)
+        played += len(some)
+    return played, counted
 
 
 def run_in_pieces(program, data, size):

@@ -13,9 +13,8 @@ exit status 1.
 
 import os
 import random
-import subprocess
 import sys
-from itertools import chain, islice
+from itertools import chain
 
 sys.path.insert(0, os.path.dirname(os.path.dirname(os.path.abspath(__file__))))
 
@@ -130,17 +129,8 @@ def main(arguments):
     seed = int(arguments[1]) if len(arguments) > 1 else SEED
     count = int(arguments[2]) if len(arguments) > 2 else COUNT
     lines = chain(powers_of_two(), random_lines(random.Random(seed), count))
-    played = of_them = 0
-    while some := list(islice(lines, PLAYED_AT_ONCE)):
-        try:
-            of_them += posted(program, some)
-        except subprocess.TimeoutExpired:
-            raise SystemExit("no end within %d seconds"
-                             % check_endings.SECONDS)
-        except OSError as error:
-            raise SystemExit("the program does not run: %s" % error)
-        played += len(some)
-    print("%d lines agree, %d of them posted" % (played, of_them))
+    print("%d lines agree, %d of them posted" % check_endings.in_parts(
+        lines, PLAYED_AT_ONCE, lambda some: posted(program, some)))
     return 0
 
 

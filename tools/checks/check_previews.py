@@ -14,7 +14,6 @@ accepted`, or what is wrong with exit status 1.
 
 import os
 import random
-import subprocess
 import sys
 from collections import namedtuple
 from itertools import islice
@@ -215,17 +214,8 @@ def main(arguments):
     seed = int(arguments[1]) if len(arguments) > 1 else SEED
     count = int(arguments[2]) if len(arguments) > 2 else COUNT
     found = islice(trials(random.Random(seed)), count)
-    played = accepted = 0
-    while some := list(islice(found, PLAYED_AT_ONCE)):
-        try:
-            accepted += accepted_by(program, some)
-        except subprocess.TimeoutExpired:
-            raise SystemExit("no end within %d seconds"
-                             % check_endings.SECONDS)
-        except OSError as error:
-            raise SystemExit("the program does not run: %s" % error)
-        played += len(some)
-    print("%d previews agree, %d of them accepted" % (played, accepted))
+    print("%d previews agree, %d of them accepted" % check_endings.in_parts(
+        found, PLAYED_AT_ONCE, lambda some: accepted_by(program, some)))
     return 0
 
 

@@ -15,14 +15,14 @@ use Rattle.book_words.specs.Totals.{shareOf}
 use Rattle.book_words.specs.declared.totals.Side.{Side}
 use Rattle.book_words.specs.declared.totals.Side.the-variants.{Operation as operation, Provision as provision}
 use Rattle.book_words.specs.declared.records.Element.{Element}
-use Rattle.book_shares.specs.Inner.Steps.{firstShare, handOutTo, putTwo}
+use Rattle.book_shares.specs.Inner.Steps.{handOutTo, putTwo}
 use Rattle.book_shares.specs.Previews.{heldBy, pairsOf}
 use Rattle.apportion.proofs.Sums.{below-or-not}
 use Rattle.book_words.proofs.NumberedRecords.{next-element}
 use Rattle.book_words.proofs.RecordsAfterWrite.{element-same}
 use Rattle.book_shares.proofs.CloseWrites.{chosen-word, chosen-element, chosen-here}
 use Rattle.book_shares.proofs.Pairs.{pair-put, pairs-cong}
-use Rattle.book_shares.proofs.ShareWrites.{handedIn, handed-length, shares-put}
+use Rattle.book_shares.proofs.ShareWrites.{firstShare, handedIn, handed-to-length, shares-put}
 
 -- an element holds the same in another book
 held-same : (ws ws′ : List ℕ) (p : ℕ) → elements ws ≡ elements ws′ → elementAt ws p ≡ elementAt ws′ p → (s : Side) → heldBy ws p s ≡ heldBy ws′ p s
@@ -39,7 +39,7 @@ module _ (ws : List ℕ) (p a b : ℕ) (long : bookLength ≤ length ws) (few : 
   held-here : (s : Side) → heldBy after p s ≡ shareOf s (elementAt after p)
   held-here s = rw (count-kept, lt-ltb p (elements ws) here)
 
-  pub pair-written : (rest : List ℕ) → putTwo (pairsOf ws ++ rest) (2 * p) a b ≡ pairsOf after ++ rest
+  pair-written : (rest : List ℕ) → putTwo (pairsOf ws ++ rest) (2 * p) a b ≡ pairsOf after ++ rest
   unfolding pairsOf
   pair-written rest =
       let shares = chosen-here ws p a b long (omega arith) in
@@ -72,7 +72,7 @@ module _ (ws places : List ℕ) (share : Side → ℕ → ℕ) (long : bookLengt
       rw start
       (ap (λ (l : List ℕ). putTwo l (2 * p) a b) (pairs-handed n (omega arith) rest)
       ∙ pair-written (handed n) p a b
-      (omega (arith, handed-length firstShare (elementList .width) places ws share n))
+      (omega (arith, handed-to-length firstShare (elementList .width) places ws share n))
       (omega (arith, counts-kept n))
       (omega (arith, counts-kept n, there n (omega arith)))
       rest

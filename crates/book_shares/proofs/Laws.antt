@@ -54,7 +54,7 @@ module _ (ws : List ℕ) (category : ℕ) where
       rw e (category-closed ws (sound-counted ws (k .fine)) category (numbers k .0) (numbers k .1) (closingShare ws category))
 
   -- an element of the category gets its share
-  pub share-written : closeRefusal ws category ≡ 0 → (side : Side) (p : ℕ) → p < elements ws → elementAt ws p .category ≡ category
+  share-written : closeRefusal ws category ≡ 0 → (side : Side) (p : ℕ) → p < elements ws → elementAt ws p .category ≡ category
       → shareOf side (elementAt (closeBook ws category) p) ≡ closingShare ws category side p
   share-written e operation p h is = ap (λ (r : Element). r .operation) (close-closed e .element-shared p h is)
   share-written e provision p h is = ap (λ (r : Element). r .provision) (close-closed e .element-shared p h is)
@@ -64,7 +64,7 @@ module _ (ws : List ℕ) (category : ℕ) where
     hands = divisions ws category side (accepted-closing ws category e)
 
     -- what is written is all that there is to hand out
-    pub balance : sumBelow (elements ws) (λ p. cond (eqb (elementAt ws p .category) category) (closingShare ws category side p) 0) ≡ unstruckOf ws category side
+    balance : sumBelow (elements ws) (λ p. cond (eqb (elementAt ws p .category) category) (closingShare ws category side p) 0) ≡ unstruckOf ws category side
     balance =
         sum-cong (elements ws) (λ p. cond (eqb (elementAt ws p .category) category) (closingShare ws category side p) 0) (closingShare ws category side)
         (λ p h. members (elementAt ws p .category) (closingShare ws category side p) (λ other. share-elsewhere ws category side hands p other))
@@ -124,12 +124,16 @@ module _ (ws pairs : List ℕ) (category : ℕ) where
   preview-refused ne = refused-old (previewRefusal ws pairs category) _ pairs ne
 
   -- It is accepted exactly when the closing is and the pair slice is not under 512 words.
-  pub preview-accepted : previewRefusal ws pairs category ≡ 0 → (closeRefusal ws category ≡ 0) × (pairWords ≤ length pairs)
-  preview-accepted e =
-      ⊎-elim
-      (λ (short : length pairs < pairWords). absurd (refused (sound ws) (sym (preview-short short) ∙ e)))
-      (λ (long : pairWords ≤ length pairs). (sym (preview-as-close long) ∙ e, long))
-      (below-or-not (length pairs) pairWords)
+  pub preview-accepted : (previewRefusal ws pairs category ≡ 0 → (closeRefusal ws category ≡ 0) × (pairWords ≤ length pairs))
+      × ((closeRefusal ws category ≡ 0) × (pairWords ≤ length pairs) → previewRefusal ws pairs category ≡ 0)
+  preview-accepted = (
+    λ e.
+        ⊎-elim
+        (λ (short : length pairs < pairWords). absurd (refused (sound ws) (sym (preview-short short) ∙ e)))
+        (λ (long : pairWords ≤ length pairs). (sym (preview-as-close long) ∙ e, long))
+        (below-or-not (length pairs) pairWords),
+    λ both. preview-as-close (both .1) ∙ both .0,
+  )
     where
       refused : (fine : Bool) → _≡_ {A = ℕ} (cond fine 17 1) 0 → ⊥
       refused true z = omega arith
@@ -143,7 +147,7 @@ module _ (ws pairs : List ℕ) (category : ℕ) where
     after = previewPairs ws pairs category
 
     abbrev accept : closeRefusal ws category ≡ 0
-    accept = preview-accepted e .0
+    accept = preview-accepted .0 e .0
 
     abbrev changes : CategoryClosed ws closed category (closingShare ws category)
     changes = close-closed ws category accept
@@ -194,5 +198,5 @@ module _ (ws pairs : List ℕ) (category : ℕ) where
               ∙ balance ws category accept side;
           pair-past = λ p past h side. held p h side ∙ rw (changes .same-elements, le-ltb p (elements ws) past);
           rest-kept = λ k past. ap (λ (l : List ℕ). at l k) written ∙ front-past (pairsOf closed) pairs pairWords k long past;
-          same-length = ap length written ∙ omega (arith, length-append (pairsOf closed) (drop pairWords pairs), length-drop pairWords pairs, long, preview-accepted e .1);
+          same-length = ap length written ∙ omega (arith, length-append (pairsOf closed) (drop pairWords pairs), length-drop pairWords pairs, long, preview-accepted .0 e .1);
         }

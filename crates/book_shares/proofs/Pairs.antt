@@ -1,5 +1,4 @@
 -- The words of pairs: a loop that writes them, and shares written over them. Assumes nothing.
-use mathlib.Core.Bool.{cond, true}
 use mathlib.Core.List.{List, [], _∷_, _++_, append-assoc}
 use mathlib.Core.Logic.{⊎-elim}
 use mathlib.Core.Path.{_≡_, refl, sym, ap, _∙_}

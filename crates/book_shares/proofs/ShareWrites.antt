@@ -14,25 +14,25 @@ use Rattle.book_words.specs.declared.totals.Side.{Side}
 use Rattle.book_words.specs.declared.totals.Side.the-variants.{Operation as operation, Provision as provision}
 use Rattle.book_words.specs.declared.records.Element.{Element}
 use Rattle.book_shares.specs.Closing.{handOut}
-use Rattle.book_shares.specs.Inner.Steps.{firstShare, handOutTo, listsBySide, putTwo}
+use Rattle.book_shares.specs.Inner.Steps.{handOutTo, listsBySide, putTwo}
 use Rattle.book_shares.specs.Inner.Members.{isMember, members, atPlaces}
 use Rattle.apportion.proofs.Lists.{list-at}
 use Rattle.book_shares.proofs.CloseWrites.{handed-later}
 use Rattle.book_shares.proofs.MemberSums.{members-length, member-at}
 
-pub put-two-length : (words : List ℕ) (start a b : ℕ) → length (putTwo words start a b) ≡ length words
+put-two-length : (words : List ℕ) (start a b : ℕ) → length (putTwo words start a b) ≡ length words
 put-two-length words start a b = length-set (set words start a) (start + 1) b ∙ length-set words start a
 
 -- shares that are written at places, from a word on and so far apart
 module _ (first width : ℕ) (places words : List ℕ) where
-  pub handed-length : (share : Side → ℕ → ℕ) (n : ℕ) → length (handOutTo first width places n words share) ≡ length words
-  handed-length share zero = refl
-  handed-length share (suc n) =
+  pub handed-to-length : (share : Side → ℕ → ℕ) (n : ℕ) → length (handOutTo first width places n words share) ≡ length words
+  handed-to-length share zero = refl
+  handed-to-length share (suc n) =
       put-two-length (handOutTo first width places n words share) (first + width * at places n) (share operation n) (share provision n)
-      ∙ handed-length share n
+      ∙ handed-to-length share n
 
   -- only the first n shares are looked at
-  pub handed-cong : (n : ℕ) (f g : Side → ℕ → ℕ) → ((s : Side) (k : ℕ) → k < n → f s k ≡ g s k)
+  handed-cong : (n : ℕ) (f g : Side → ℕ → ℕ) → ((s : Side) (k : ℕ) → k < n → f s k ≡ g s k)
       → handOutTo first width places n words f ≡ handOutTo first width places n words g
   handed-cong zero f g same = refl
   handed-cong (suc n) f g same =
@@ -52,7 +52,7 @@ handing-start first width places words share = record { inside = omega arith; so
 
 module _ {first width : ℕ} {places words new : List ℕ} {share : Side → ℕ → ℕ} {k : ℕ} (h : Handing first width places words share k new) where
   pub handing-length : length new ≡ length words
-  handing-length = ap length (h .so-far) ∙ handed-length first width places words share k
+  handing-length = ap length (h .so-far) ∙ handed-to-length first width places words share k
 
   pub handing-next : (next : List ℕ) → k < length places
       → next ≡ putTwo new (first + width * at places k) (share operation k) (share provision k)
@@ -64,7 +64,10 @@ module _ {first width : ℕ} {places words new : List ℕ} {share : Side → ℕ
       let end : k ≡ length places = omega (arith, h .inside) in
       h .so-far ∙ ap (λ (n : ℕ). handOutTo first width places n words share) end
 
--- in the book
+-- in the book: the first share word of the first element, and the shares handed out from it on
+abbrev pub firstShare : ℕ
+firstShare = elementList .first + operationShareWord
+
 abbrev pub handedIn : List ℕ → ℕ → List ℕ → (Side → ℕ → ℕ) → List ℕ
 handedIn places n ws share = handOutTo firstShare (elementList .width) places n ws share
 

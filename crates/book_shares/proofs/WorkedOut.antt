@@ -8,14 +8,14 @@ use native.Mathlib.Omega.{arith}
 use lib.ListN.{length, take, drop, replicate}
 use lib.Seq.{length-take-le}
 use Rattle.apportion.specs.Places.{at}
-use Rattle.book_words.specs.Book.{bookLength, categories, elementList, elements, mostElements, closeCategory}
+use Rattle.book_words.specs.Book.{categories, elementList, elements, mostElements, closeCategory}
 use Rattle.book_words.specs.Inner.Steps.{CountsWithin}
 use Rattle.book_words.specs.Soundness.{sound}
 use Rattle.book_words.specs.declared.totals.Side.{Side}
 use Rattle.book_words.specs.declared.totals.Side.the-variants.{Operation as operation, Provision as provision}
 use Rattle.book_shares.specs.Closing.{closeRefusal, closeBook, closeWith, handOut}
-use Rattle.book_shares.specs.Inner.Members.{members, startingWith, atPlaces, Listed}
-use Rattle.book_shares.specs.Inner.Steps.{ToWorkOut, workedOut, firstShare, handOutTo, listsBySide}
+use Rattle.book_shares.specs.Inner.Members.{members, startingWith, atPlaces}
+use Rattle.book_shares.specs.Inner.Steps.{ToWorkOut, workedOut, handOutTo, listsBySide}
 use Rattle.book_shares.specs.Previews.{pairWords, pairsOf, pairsWritten}
 use Rattle.book_shares.specs.Shares.{closingShare}
 use Rattle.apportion.proofs.Grounds.{accepted-new}
@@ -23,10 +23,10 @@ use Rattle.apportion.proofs.Lists.{list-length}
 use Rattle.book_words.proofs.Ranges.{between-high}
 use Rattle.book_words.proofs.SoundTests.{sound-counted}
 use Rattle.book_shares.proofs.BookPairs.{pairs-handed, pairs-closed}
-use Rattle.book_shares.proofs.CloseAccepted.{AcceptedClosing, accepted-closing}
+use Rattle.book_shares.proofs.CloseAccepted.{accepted-closing}
 use Rattle.book_shares.proofs.MemberSums.{front-taken, members-few, listed-inside}
 use Rattle.book_shares.proofs.PartsAdded.{zeros-at}
-use Rattle.book_shares.proofs.ShareWrites.{handedIn, sides-written}
+use Rattle.book_shares.proofs.ShareWrites.{firstShare, handedIn, sides-written}
 
 -- the elements are listed at the front of an array, and the shares are worked out in arrays of zeros
 module _ (ws : List ℕ) (category : ℕ) (fine : sound ws ≡ true) (n : ℕ) (is-n : n ≡ length (members ws category)) where

@@ -21,7 +21,7 @@ pairWords = 2 * mostElements
 abbrev pub shortOfPairs : List ℕ → Bool
 shortOfPairs pairs = ltb (length pairs) pairWords
 
--- "It refuses with 17, checked just after 1, a pair slice under 512 words, and otherwise exactly as closing does."
+-- "It refuses with 17, checked just after 1, a pair slice under 512 words, and otherwise exactly as closing does.": 1, 17, 2, 4, 9
 abbrev pub previewGrounds : List ℕ → List ℕ → ℕ → List Ground
 previewGrounds ws pairs category = checkedJustAfter 1 (17, shortOfPairs pairs) (closeGrounds ws category)
 
@@ -57,7 +57,7 @@ pairAt pairs place provision = at pairs (2 * place + 1)
 
 -- what an accepted preview leaves in the pair slice, pair by pair (law `preview-shows`)
 pub record Previewed (ws pairs : List ℕ) (category : ℕ) (after : List ℕ) : Type 0 where
-  -- "It must equal closing a copy and reading it": the closing is accepted, and so is each pair
+  -- "It must equal closing a copy and reading it": the closing is accepted, and each pair is what its element then holds
   pub closing-accepted : closeRefusal ws category ≡ 0
   pub pair-closed : (p : ℕ) → p < elements ws → (side : Side) → pairAt after p side ≡ shareOf side (elementAt (closeBook ws category) p)
   -- elements of other categories and quoted ones show what they hold now

@@ -11,7 +11,7 @@ ghost use Rattle.book_shares.specs.declared.weights.Recipients.the-varia
 ghost use Rattle.book_shares.specs.Closing.{closeRefusal, closeBook, nothingToDivideBy, poolWithoutElements};
 ghost use Rattle.book_shares.specs.Inner.Steps.{ToWorkOut, workedOut};
 ghost use Rattle.book_shares.specs.Inner.Members.{Listed, members as membersOf, activityAt};
-use crate::handing::hand_out_to;
+use crate::handing_out::hand_out_to;
 use crate::listing::list_members;
 use crate::pools;
 use crate::sharing::set_shares;

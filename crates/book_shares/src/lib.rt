@@ -1,7 +1,7 @@
 // The shares of a category (document 01, "Close" and "Intensity"): the pools of its unstruck entries, the
 // activities that they are divided by, and what each element gets.
 mod closings;
-mod handing;
+mod handing_out;
 mod intensities;
 mod listing;
 mod pools;

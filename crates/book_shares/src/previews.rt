@@ -8,8 +8,8 @@ ghost use Rattle.book_words.specs.declared.totals.Side.the-variants.{Operation,
 ghost use Rattle.book_shares.specs.Inner.Steps.{ToWorkOut, workedOut};
 ghost use Rattle.book_shares.specs.Previews.{pairWords, pairsWritten, previewRefusal, previewPairs};
 use crate::closings::work_out;
-use crate::handing::hand_out_to;
-use crate::handing::put_two;
+use crate::handing_out::hand_out_to;
+use crate::handing_out::put_two;
 use crate::listing::list_members;
 
 // A pair, of two words, for each of 256 elements.
@@ -61,6 +61,7 @@ fn preview_members(
         return refusal;
     }
     put_pairs(book, pairs);
+    // The pair of the place p begins at word 2 × p.
     hand_out_to(pairs, 0, 2, members, operation, provision);
     0
 }
@@ -73,7 +74,7 @@ fn put_pairs(book: &[u64], pairs: &mut [u64])
 {
     let mut place = 0;
     while place < PAIRS {
-        // Zeros past the last.
+        // Past the last element these are zeros.
         let e = book_words::numbered_element(book, place as u64 + 1);
         put_two(pairs, 2 * place, e.operation, e.provision);
         place += 1;

@@ -13,7 +13,7 @@ use crate::state;
 use crate::state::State;
 
 // The longest slice of pairs.
-const ROOM: usize = 600;
+const PAIR_ROOM: usize = 600;
 
 // Previews the closing of a category into so many words, and prints the answer.
 pub fn preview(category: u64, size: u64, memory: &[u64], buffer: &mut Buffer, state: State) -> State
@@ -22,10 +22,10 @@ pub fn preview(category: u64, size: u64, memory: &[u64], buffer: &mut Buffer, st
         ≡ onMachine (previewDone category size) (stageOf (now (memory .entry)) file (now (buffer .entry)) state)) ⌝ }
 {
     let pairs = size as usize;
-    if pairs > ROOM {
+    if pairs > PAIR_ROOM {
         return state::bad(state);
     }
-    let mut line = [7u64; ROOM + 1];
+    let mut line = [7u64; PAIR_ROOM + 1];
     let lent = state::least(state.lent, memory::LENGTH);
     print_preview(
         category,

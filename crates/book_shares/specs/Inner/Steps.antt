@@ -8,7 +8,7 @@ use lib.ListN.{length, set}
 use Rattle.apportion.specs.Dividing.{Divisible, divided, mostPool}
 use Rattle.apportion.specs.Grounds.{accepted}
 use Rattle.apportion.specs.Places.{at, listBelow}
-use Rattle.book_words.specs.Book.{categories, elementList, operationShareWord}
+use Rattle.book_words.specs.Book.{categories}
 use Rattle.book_words.specs.Measures.{between, isHub}
 use Rattle.book_words.specs.Soundness.{sound}
 use Rattle.book_words.specs.declared.totals.Side.{Side}
@@ -76,7 +76,7 @@ pub record ToWorkOut (ws : List ℕ) (category : ℕ) (places byOperation byProv
   pub operation-zeros : (k : ℕ) → at byOperation k ≡ 0
   pub provision-zeros : (k : ℕ) → at byProvision k ≡ 0
 
--- the shares of the elements at these places, where the closing is accepted
+-- the shares of the elements at these places, where the closing is accepted; where it is refused, the slice as it was
 abbrev pub workedOut : List ℕ → ℕ → List ℕ → Side → List ℕ → List ℕ
 workedOut ws category places side shares =
     accepted (closeRefusal ws category) (atPlaces places (closingShare ws category side)) shares
@@ -96,10 +96,6 @@ abbrev pub handOutTo : ℕ → ℕ → List ℕ → ℕ → List ℕ → (Side �
 handOutTo first width places zero words share = words
 handOutTo first width places (suc n) words share =
     putTwo (handOutTo first width places n words share) (first + width * at places n) (share operation n) (share provision n)
-
--- in the book: the first share word of the first element
-abbrev pub firstShare : ℕ
-firstShare = elementList .first + operationShareWord
 
 -- grounds 1, 2, 3 and 9 of an intensity do not hold; the code behind them needs no more
 pub record Allowed (ws : List ℕ) (category code : ℕ) : Type 0 where

@@ -1,4 +1,4 @@
--- `book_shares::handing::hand_out_to` meets its contract: up to a place in the list the elements have their shares.
+-- `book_shares::handing_out::hand_out_to` meets its contract: up to a place in the list the elements have their shares.
 -- Assumes nothing.
 use Prim.Native.Nat.{_-_, _+_, _*_, _<_}
 use native.Mathlib.Omega.{arith}
@@ -7,8 +7,8 @@ use borrow.Author.Needs.{needs}
 use Rattle.apportion.specs.Places.{at}
 use Rattle.book_shares.specs.Inner.Steps.{listsBySide}
 use Rattle.book_shares.proofs.ShareWrites.{Handing, handing-start, handing-length, handing-next, handing-done}
-use Rattle.book_shares.proofs.handing.hand_out_to.Statement.{statement}
-use Rattle.book_shares.proofs.handing.hand_out_to.Tie as tie
+use Rattle.book_shares.proofs.handing_out.hand_out_to.Statement.{statement}
+use Rattle.book_shares.proofs.handing_out.hand_out_to.Tie as tie
 
 abbrev Inv-loop : tie.InvT-loop
 Inv-loop words₀ first width members operation provision next₀ words next =
