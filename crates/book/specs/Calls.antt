@@ -1,6 +1,6 @@
 -- "Calls" and their "Grounds, in checking order". Each call has one ordered list of its grounds; its reply and the book after
--- it go by the number of the first ground that holds. Close and intensity are in `Closing` and `Intensities` of `book_shares`,
--- statement in `Statements`, a line in `Lines`.
+-- it go by the number of the first ground that holds. Close, preview and intensity are in `Closing`, `Previews` and `Intensities` of
+-- `book_shares`, statement in `Statements`, a line in `Lines`.
 -- Assumes nothing.
 use mathlib.Core.Bool.{Bool, not, _&&_, _||_, cond}
 use mathlib.Core.List.{List, _++_, _∷_, []}

@@ -1,5 +1,5 @@
-// The shares of a category (document 01, "Close" and "Intensity"): the pools of its unstruck entries, the
-// activities that they are divided by, and what each element gets.
+// The shares of a category (document 01, "Close" and "Intensity"; document 02, a preview): the pools of its
+// unstruck entries, the activities that they are divided by, and what each element gets.
 mod closings;
 mod handing_out;
 mod intensities;
