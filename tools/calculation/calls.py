@@ -1,7 +1,7 @@
 """The calls of the book: their grounds, and what an accepted one does.
 
-Written from document 01 and from document 02's weighed passengers, lines and
-previews. Sentences in quotation marks are their own.
+Written from document 01 and from document 02's weighed passengers, lines,
+previews and rounding. Sentences in quotation marks are their own.
 
 A call gets the words of the lent slice, reads the records out of them and,
 when it is accepted, writes into them. Of the slice that is lent for the pairs
@@ -20,6 +20,7 @@ from calculation.book import (
 from calculation.closing import (
     INTENSITY_CODES, MOST_INTENSITY, Sums, divisors, intensity_of,
     is_without_weight, shares_by_number)
+from calculation.rounding import nearest
 from calculation.workbook import LIMITS, converted, is_exchanged, is_unusable
 
 # Refusal numbers.
@@ -308,11 +309,11 @@ def enrol(words, category, chain, code, amount, distance, kg_per_head=0):
 
 def quoted_shares(adjust, mass, distance, operation_intensity,
                   provision_intensity):
-    """"(intensity × mass × D / 1000), nearest, halves up. D is the distance,
-    or with adjust 1 the distance plus 95,000".
+    """"(intensity × mass × D / 1000), nearest"; "Halves go to the even
+    number." "D is the distance, or with adjust 1 the distance plus 95,000".
     """
     whole_distance = distance + AIR_DEFAULT if adjust == 1 else distance
-    return tuple((intensity * mass * whole_distance + 500) // 1000
+    return tuple(nearest(intensity * mass * whole_distance, 1000)
                  for intensity in (operation_intensity, provision_intensity))
 
 

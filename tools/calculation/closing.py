@@ -1,7 +1,7 @@
 """What a closing divides, and what an intensity comes to.
 
-Written from document 01 and from document 02's weighed passengers. Sentences
-in quotation marks are their own.
+Written from document 01 and from document 02's weighed passengers and
+rounding. Sentences in quotation marks are their own.
 
 An amount is "operation" or "provision". The codes of a class of elements are
 the freight codes, the passenger codes or those of one group.
@@ -11,6 +11,7 @@ from calculation.book import (
     AMOUNTS, FREIGHT_CODES, HUB, PASSENGER_CODES, mass_of_head, total,
     unstruck)
 from calculation.dividing import shares_of
+from calculation.rounding import nearest
 
 # "Intensity (category, code 0, 1, 2 or 100)"
 LOWEST_CLASS = 100
@@ -116,14 +117,9 @@ def divisors(sums, code):
     return [sums.F]
 
 
-def nearest(number, divisor):
-    """The quotient "rounded to nearest, halves up"."""
-    return (2 * number + divisor) // (2 * divisor)
-
-
 def intensity_of(sums, code, amount):
     """An intensity whose divisors are above 0: "each quotient below is
-    rounded to nearest, halves up, and then added".
+    rounded to nearest, [...] and then added"; "Halves go to the even number."
     """
     freight_part, passenger_part = sums.parts(amount)
     if code == LOWEST_CLASS:

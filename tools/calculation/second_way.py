@@ -1,14 +1,16 @@
 """The rules of document 01 once more, and those of document 02's weighed
-passengers, lines and previews, by other means; the checks compare.
+passengers, lines, previews and rounding, by other means; the checks compare.
 
 The dividing rule hands out its units one at a time, soundness goes through
 the words with running sums, the calls work on lists beside the book, the
-doubles of a line are compared as doubles and rounded as decimal numbers, and
-a preview closes nothing: it adds the parts to what the elements hold.
+doubles of a line are compared as doubles and rounded as decimal numbers, a
+preview closes nothing: it adds the parts to what the elements hold, and
+halves go to the even number by Python's own rounding of fractions and decimal
+numbers.
 """
 
 import struct
-from decimal import ROUND_HALF_UP, Decimal
+from decimal import ROUND_HALF_EVEN, Decimal
 from fractions import Fraction
 
 EMISSIONS = 10 ** 18
@@ -169,9 +171,12 @@ def refusal_of_cells(cells):
 def number_in(cell):
     """The number of a cell that is not refused."""
     # A double has an exact decimal value.
-    ends = [int(Decimal(double).quantize(Decimal("0.001"), ROUND_HALF_UP)
+    ends = [int(Decimal(double).quantize(Decimal("0.001"), ROUND_HALF_EVEN)
                 .scaleb(3)) for double in doubles_of(cell)]
-    return (ends[0] + ends[-1] + 1) // 2
+    # A sum of 4 k + 1 is half a unit above an even mean, one of 4 k + 3 above
+    # an odd one.
+    both = ends[0] + ends[-1]
+    return both // 2 + (both % 4 == 3)
 
 
 # The second way of the calls: lists beside the book, and running sums.
@@ -311,9 +316,8 @@ class Lists:
 
     def quote(self, chain, adjust, mass, distance, *intensities):
         longer = distance + 95_000 * (adjust == 1)
-        # Half more, and rounded down.
-        amounts = [(Fraction(intensity * mass * longer, 1000)
-                    + Fraction(1, 2)).__floor__()
+        # Python rounds a half to the even number.
+        amounts = [round(Fraction(intensity * mass * longer, 1000))
                    for intensity in intensities]
         grounds = {
             3: not 0 < chain < 10_001 or adjust > 1,
@@ -433,8 +437,7 @@ class Lists:
                 if code == 2:
                     del above[1]
                 results[amount] = sum(
-                    (Fraction(part * scale, divisor)
-                     + Fraction(1, 2)).__floor__()
+                    round(Fraction(part * scale, divisor))
                     for part, divisor in zip(above, below))
         grounds = {
             2: kind == 0,

@@ -1,13 +1,14 @@
 """The tally: what the calls of a list came to, kept beside the book.
 
 Written from document 01, "Lists and the tally", and from document 02's
-weighed passengers and lines. Sentences in quotation marks are their own. "The
-tally is kept beside the book and takes nothing from it. It is fed each call
-with its arguments and refusal number."
+weighed passengers, lines and rounding. Sentences in quotation marks are their
+own. "The tally is kept beside the book and takes nothing from it. It is fed
+each call with its arguments and refusal number."
 """
 
 from collections import namedtuple
 
+from calculation.rounding import nearest
 from calculation.workbook import converted
 
 Category = namedtuple("Category", "kind closed")
@@ -78,10 +79,11 @@ class Tally:
     def quote(self, chain, adjust, mass, distance, *intensities):
         """"adds an element with its chain and its two amounts, operation and
         provision, by the formula and rounding under quote"."""
-        # "(intensity × mass × D / 1000), nearest, halves up. D is the
-        # distance, or with adjust 1 the distance plus 95,000"
+        # "(intensity × mass × D / 1000), nearest"; "D is the distance, or
+        # with adjust 1 the distance plus 95,000"; "Halves go to the even
+        # number.", and "demand 3 counts each accepted quote by it"
         d = distance + 95_000 if adjust == 1 else distance
-        operation, provision = ((2 * intensity * mass * d + 1000) // 2000
+        operation, provision = (nearest(intensity * mass * d, 1000)
                                 for intensity in intensities)
         add(self.elements, Quoted(chain, operation, provision))
 

@@ -1,6 +1,7 @@
 """The cells of a line from the Wharf Sheet, by the bits of their doubles.
 
-Written from document 02's lines. Sentences in quotation marks are its own.
+Written from document 02's lines and rounding. Sentences in quotation marks
+are its own.
 
 A double is its 64 bits, as a whole number; nothing is reckoned in floating
 point. "A cell is blank, one double, or a span of two doubles": a tuple of
@@ -8,6 +9,8 @@ none, one or two such numbers.
 """
 
 from fractions import Fraction
+
+from calculation.rounding import nearest
 
 BLANK = ()
 
@@ -20,8 +23,6 @@ FRACTION_BITS = 52
 LARGEST_EXPONENT = 2 ** 11 - 1
 # The exponent that a whole significand, 53 bits long, would have.
 BIAS = 1023 + FRACTION_BITS
-
-HALF = Fraction(1, 2)
 
 
 class NoNumber(Exception):
@@ -69,20 +70,15 @@ def is_exchanged(cell):
 
 # Its number.
 
-def nearest(value):
-    """The nearest whole number, "halves up"."""
-    whole = value.numerator // value.denominator
-    return whole + 1 if value - whole >= HALF else whole
-
-
 def converted(cell):
     """"A double becomes the nearest whole thousandth of its exact binary
-    value, halves up. A span becomes the mean of its two converted ends,
-    halves up."
+    value"; "A span becomes the mean of its two converted ends"; "Halves go to
+    the even number."
     """
     values = values_of(cell)
     if cell == BLANK or None in values:
         raise NoNumber
-    ends = [nearest(1000 * value) for value in values]
+    ends = [nearest(1000 * value.numerator, value.denominator)
+            for value in values]
     # The mean of one is itself.
-    return nearest(Fraction(sum(ends), len(ends)))
+    return nearest(sum(ends), len(ends))

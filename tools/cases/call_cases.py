@@ -113,11 +113,15 @@ def unused_arguments(cases):
 
 def reckoned_by_hand(cases):
     cases.new_book()
-    # "Quote 1, 500 kg, 1 m: 1."
+    # "Quote 1, 500 kg, 1 m" is half a microgram: "The starred quote of half a
+    # microgram becomes 0, and 1.5 stays 2."
     cases.quote(1, 0, 500, 1, 1, 1)
+    cases.quote(1, 0, 1500, 1, 1, 1)
     # "Quote 600000, adjust 1, 1000 kg, 905,000 m: 600,000,000,000."
     cases.quote(1, 1, 1000, 905_000, 600_000, 600_000)
-    cases.dump(356, 18)
+    cases.shares_are(book.QUOTED, (0, 2, 600_000_000_000),
+                     (0, 2, 600_000_000_000))
+    cases.dump(356, 27)
     # The calls of the file that document 01 gives as an example.
     cases.new_book(1)
     cases.post(1, 0, 12_000_000, 3_220_000, 560_000)
@@ -337,7 +341,7 @@ def values_of_quote(cases):
 
 
 def rounding_of_quote(cases):
-    """"nearest, halves up"."""
+    """To the nearest, and "Halves go to the even number."."""
     cases.fresh()
     for thousandths in (0, 1, 499, 500, 501, 999, 1000, 1001, 1499, 1500,
                         1501, 2499, 2500, 2501):
@@ -346,9 +350,12 @@ def rounding_of_quote(cases):
     for intensity in (999_999_499, 999_999_500, 999_999_501):
         cases.quote(1, 0, 1, 1, intensity, intensity)
         cases.quote(1, 0, 1, 3, intensity, 10 ** 9 - intensity)
-    # Operation and provision are rounded apart: 1 and 0, then 0 and 1.
-    cases.quote(1, 0, 1, 1, 500, 499)
-    cases.quote(1, 0, 1, 1, 499, 500)
+    # Operation and provision are rounded apart: 1 and 0, then 0 and 1; 2 and
+    # 0, then 0 and 2.
+    cases.quote(1, 0, 1, 1, 501, 500)
+    cases.quote(1, 0, 1, 1, 500, 501)
+    cases.quote(1, 0, 1, 1, 1500, 500)
+    cases.quote(1, 0, 1, 1, 500, 1500)
     # With adjust 1 the distance is 95,000 m longer in the shares alone.
     for distance in (1, 2, 5000, FARTHEST):
         for intensity in (1, 7, 500, 1001):
@@ -661,8 +668,8 @@ def emissions_of_posts(cases):
     cases.post(2, 0, 10 ** 12, 1, 1)
     cases.post(2, 0, 1, 1, 0, gives=10)
     cases.post(2, 0, 1, 0, 1, gives=10)
-    cases.quote(1, 0, 1, 1, 500, 0, gives=10)
-    cases.quote(1, 0, 1, 1, 499, 499)
+    cases.quote(1, 0, 1, 1, 501, 0, gives=10)
+    cases.quote(1, 0, 1, 1, 499, 500)
     cases.dump_book()
 
 
@@ -691,8 +698,8 @@ def emissions_of_quotes(cases):
         cases.new_book(1)
         cases.quote(1, 0, 10 ** 9, 1001, *large, gives=10)
         cases.quote(1, 0, 10 ** 9, 1000, *large)
-        cases.quote(1, 0, 1, 1, 499, 499)
-        cases.quote(1, 0, 1, 1, operation * 500, provision * 500, gives=10)
+        cases.quote(1, 0, 1, 1, 500, 500)
+        cases.quote(1, 0, 1, 1, operation * 501, provision * 501, gives=10)
         cases.post(1, 0, 1, operation, provision, gives=10)
         cases.post(1, 0, 1, 1 - operation, 1 - provision)
         cases.is_sound()
@@ -701,26 +708,27 @@ def emissions_of_quotes(cases):
         cases.new_book(1)
         cases.quote(1, 1, 10 ** 7, 5001, *large, gives=10)
         cases.quote(1, 1, 10 ** 7, 5000, *large)
-        cases.quote(1, 0, 1, 1, operation * 500, provision * 500, gives=10)
+        cases.quote(1, 0, 1, 1, operation * 501, provision * 501, gives=10)
         cases.dump_book()
-    # Where 1 µg is left, 1.499 µg pass and 1.5 µg do not.
+    # Where 1 µg is left, 1.499 µg pass and 1.5 µg do not; where 2 µg are
+    # left, 2.5 µg pass and 2.501 µg do not.
     for operation, provision in ((1, 0), (0, 1)):
         for left in (0, 1, 2):
             cases.new_book(1)
             cases.post(1, 0, 10 ** 9, operation * (10 ** 9 - 1),
                        provision * (10 ** 9 - 1))
             cases.post(1, 0, 10 ** 9 - left, operation, provision)
-            mass = 1000 * left + 500
+            mass = 1500 if left == 1 else 1000 * left + 501
             cases.quote(1, 0, mass, 1, operation, provision, gives=10)
             cases.quote(1, 0, mass, 1, 1, 1, gives=10)
             cases.quote(1, 0, mass - 1, 1, operation, provision)
             cases.is_sound()
-            cases.quote(1, 0, 1, 1, 499, 499)
-            cases.quote(1, 0, 1, 1, operation * 500, provision * 500, gives=10)
+            cases.quote(1, 0, 1, 1, 500, 500)
+            cases.quote(1, 0, 1, 1, operation * 501, provision * 501, gives=10)
             cases.post(1, 0, 1, operation, provision, gives=10)
             # Struck, the entries leave room; quoted shares stay.
             cases.strike(1)
-            cases.quote(1, 0, 1, 1, operation * 500, provision * 500)
+            cases.quote(1, 0, 1, 1, operation * 501, provision * 501)
             cases.post(1, 0, 10 ** 9, operation * (10 ** 9 - 1),
                        provision * (10 ** 9 - 1), gives=10)
             cases.dump_book()
@@ -745,8 +753,8 @@ def emissions_of_quotes(cases):
     for number in range(10):
         cases.quote(1, number % 2, 10 ** 8, 5000 + (1 - number % 2) * 95_000,
                     10 ** 7, 10 ** 7 - 1)
-    cases.quote(1, 0, 1, 1, 500, 0, gives=10)
-    cases.quote(1, 0, 1, 1, 0, 500)
+    cases.quote(1, 0, 1, 1, 501, 0, gives=10)
+    cases.quote(1, 0, 1, 1, 0, 501)
     cases.quote(1, 0, 10 ** 8, 10 ** 5, 0, 10, gives=10)
     cases.dump_book()
 

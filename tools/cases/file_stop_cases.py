@@ -405,8 +405,8 @@ def stops_of_quote(cases):
                                changed(LONGEST, category=0)]),
         (10, IN_ELEMENTS, 3))
     posted = [(1, 0, 10 ** 12, 10 ** 6, 10 ** 6)]
-    for intensities, gives in (((499, 499), LOADED), ((500, 0), (10, 3, 1)),
-                               ((0, 500), (10, 3, 1))):
+    for intensities, gives in (((500, 500), LOADED), ((501, 0), (10, 3, 1)),
+                               ((0, 501), (10, 3, 1))):
         cases.load_and_show(
             file_of([(1, 0)], posted, [(0, 1, 0, 0, 1, 1, *intensities)]),
             gives)

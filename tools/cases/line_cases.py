@@ -106,18 +106,19 @@ def reckoned_by_hand(cases):
         (single(0.1), 100), (single(2.5), 2500), (single(0.0004), 0),
         (single(123.4564), 123_456), (single(123.4566), 123_457),
         # An odd number of sixteenths is a half: 62.5, 187.5, 312.5.
-        (single(0.0625), 63), (single(0.1875), 188), (single(0.3125), 313),
+        (single(0.0625), 62), (single(0.1875), 188), (single(0.3125), 312),
         # 0.0005 and 0.0015 are a little more than their decimals, 0.0045 is
         # a little less.
         (single(0.0005), 1), (single(0.0015), 2), (single(0.0045), 4),
         (span(0.0, 0.0), 0), (span(1.0, 2.0), 1500),
         # 1 and 2 are 1.5, 2 and 3 are 2.5.
-        (span(0.001, 0.002), 2), (span(0.002, 0.003), 3),
-        # 0 and 1, although the mean of 0 and 0.6 is 0.3; 1 and 2, although
-        # that of 0.6 and 1.6 is 1.1.
-        (span(0.0, 0.0006), 1), (span(0.0006, 0.0016), 2),
-        # 63 and 188 are 125.5; 62.5 and 187.5 would be 125.
-        (span(0.0625, 0.1875), 126),
+        (span(0.001, 0.002), 2), (span(0.002, 0.003), 2),
+        # 0 and 1 are 0.5, although the mean of 0.4 and 1.4 is 0.9; 1 and 2
+        # are 1.5, although that of 0.6 and 1.6 is 1.1.
+        (span(0.0004, 0.0014), 0), (span(0.0006, 0.0016), 2),
+        # 62 and 188 are 125, as 62.5 and 187.5 are; 62 and 312 are 187, and
+        # 62.5 and 312.5 would be 187.5.
+        (span(0.0625, 0.1875), 125), (span(0.0625, 0.3125), 187),
     ):
         rows.everywhere(cell, thousandths)
     rows.end()
@@ -158,22 +159,28 @@ def beside(double):
 
 def halves(cases):
     """Odd numbers of sixteenths and the doubles beside them; no other double
-    is a half of a thousandth. Even ones are whole thousandths."""
+    is a half of a thousandth. Even ones are whole thousandths. 1 sixteenth is
+    62.5, 3 are 187.5: every other half lies above an even number."""
     rows = Rows(cases)
     for number in (*range(1, 33, 2), 255, 257, 2 ** 20 - 1, 2 ** 20 + 1,
                    16 * 10 ** 7 - 1):
         below, half, above = beside(bits(number / 16))
         whole = 125 * number // 2
-        rows.quantity((half,), whole + 1)
+        even = whole if number % 4 == 1 else whole + 1
+        rows.quantity((half,), even)
         rows.factors((below,), (above,), whole, whole + 1)
-        rows.factors((half,), (half,), whole + 1, whole + 1)
-        rows.factors((below, half), (half, above), whole + 1, whole + 1)
-        # To the next one: 125 thousandths more.
+        rows.factors((half,), (half,), even, even)
+        # The mean of two numbers beside one another is their half, or both
+        # are the same.
+        rows.factors((below, half), (half, above), even, even)
+        # To the next one: 126 thousandths more from an even number below, 124
+        # from one above.
         if number < 32:
-            rows.quantity((half, bits((number + 2) / 16)), whole + 64)
+            rows.quantity((half, bits((number + 2) / 16)), whole + 63)
     for number in (2 ** 31 - 1, 2 ** 33 + 1, 16 * 10 ** 9 - 1):
         whole = 125 * number // 2
-        for double, more in zip(beside(bits(number / 16)), (0, 1, 1)):
+        for double, more in zip(beside(bits(number / 16)),
+                                (0, int(number % 4 == 3), 1)):
             rows.quantity((double,), whole + more)
     for number in (2, 4, 6, 8, 16, 24, 48):
         rows.everywhere(single(number / 16), 125 * number // 2)
@@ -235,6 +242,8 @@ def limits(cases):
                                     (bits(most - 0.001), whole - 1),
                                     (bits(most - 0.5), whole - 500)):
             rows.cell(place, (double,), thousandths)
+            # The mean of one less and the limit is the limit, which is even;
+            # so is half of it.
             rows.cell(place, (double, limit), (thousandths + whole + 1) // 2)
             rows.cell(place, (ZERO, double), (thousandths + 1) // 2)
         for double in (limit + 1, limit + 2, bits(most + 0.001),
@@ -275,24 +284,27 @@ def spans(cases):
         ((NEGATIVE_ZERO, ZERO), 0), ((NEGATIVE_ZERO, NEGATIVE_ZERO), 0),
         ((ZERO, SUBNORMAL), 0), ((NEGATIVE_ZERO, SUBNORMAL), 0),
         ((SUBNORMAL, SUBNORMAL), 0), ((SUBNORMAL, NORMAL), 0),
-        ((ZERO, bits(0.001)), 1), ((NEGATIVE_ZERO, bits(0.001)), 1),
+        ((ZERO, bits(0.001)), 0), ((NEGATIVE_ZERO, bits(0.001)), 0),
         ((SUBNORMAL, bits(0.002)), 1), ((ZERO, bits(0.003)), 2),
         # Sums that are even and odd.
-        (span(1.0, 1.0), 1000), (span(1.0, 1.001), 1001),
+        (span(1.0, 1.0), 1000), (span(1.0, 1.001), 1000),
         (span(1.0, 1.002), 1001), (span(1.001, 1.002), 1002),
-        (span(0.0, 1e7), 5_000_000_000), (span(0.001, 1e7), 5_000_000_001),
+        (span(0.0, 1e7), 5_000_000_000), (span(0.001, 1e7), 5_000_000_000),
+        (span(0.003, 1e7), 5_000_000_002),
         (span(1e7, 1e7), 10_000_000_000),
         (span(9_999_999.999, 1e7), 10_000_000_000),
         (span(9_999_999.998, 1e7), 9_999_999_999),
         # Ends beside one another, on both sides of a half.
-        ((bits(0.0625) - 1, bits(0.0625)), 63),
-        ((bits(0.0625), bits(0.0625) + 1), 63),
+        ((bits(0.0625) - 1, bits(0.0625)), 62),
+        ((bits(0.0625), bits(0.0625) + 1), 62),
+        ((bits(0.1875) - 1, bits(0.1875)), 188),
         ((bits(0.1875) - 2, bits(0.1875) - 1), 187),
         ((bits(1.0), bits(1.0) + 1), 1000),
     ):
         rows.everywhere(cell, thousandths)
     rows.quantity(span(0.0, 1e9), 500_000_000_000)
-    rows.quantity(span(0.001, 1e9), 500_000_000_001)
+    rows.quantity(span(0.001, 1e9), 500_000_000_000)
+    rows.quantity(span(0.003, 1e9), 500_000_000_002)
     rows.quantity(span(1e9, 1e9), 10 ** 12)
     # Exchanged, by as little as there is.
     for cell in (
@@ -487,7 +499,7 @@ def few_emissions_left(cases):
     cases.fill_emissions(1, 9, 9)
     cases.line(1, 0, ONE, single(0.01), single(0.0), gives=10)
     cases.line(1, 0, single(0.01), single(0.0), ONE, gives=10)
-    cases.line(1, 0, span(0.002, 0.004), single(0.003), span(0.0, 0.005))
+    cases.line(1, 0, span(0.002, 0.004), single(0.003), span(0.001, 0.005))
     cases.line(1, 0, ONE, ONE, single(0.0), gives=10)
     cases.line(1, 0, ONE, single(0.0), ONE, gives=10)
     cases.is_sound()

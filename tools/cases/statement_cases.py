@@ -146,7 +146,7 @@ def many_of_one_chain(cases):
 def quotes_alone(cases):
     """They never wait, whatever is open or closed."""
     cases.new_book()
-    cases.quote(3, 0, 500, 1, 1, 0)
+    cases.quote(3, 0, 1000, 1, 1, 0)
     cases.statement(3, shows=(1, 0, 1, 0, 1))
     cases.open(4)
     cases.quote(3, 1, 1, 5000, 0, 10)

@@ -10,7 +10,8 @@ from contextlib import contextmanager
 
 from calculation import calls, player
 from calculation.book import AMOUNTS, ELEMENTS, Book, word
-from calculation.workbook import nearest, values_of
+from calculation.rounding import nearest
+from calculation.workbook import values_of
 from cases.line_writer import line_records, single, span
 from checks.conservation_checks import CHAINS, FED, Broken, check_list
 
@@ -341,8 +342,9 @@ def line_rounded_down(words, category, group, *cells):
 
 def line_by_exact_mean(words, category, group, *cells):
     """A span by the mean of its ends as they are."""
+    means = [sum(values_of(cell)) / len(cell) for cell in cells]
     return calls.post(words, category, group, *[
-        nearest(1000 * sum(values_of(cell)) / len(cell)) for cell in cells])
+        nearest(1000 * mean.numerator, mean.denominator) for mean in means])
 
 
 def line_by_first_end(words, category, group, *cells):
@@ -412,12 +414,12 @@ WEIGHED = (
 WRONG_LINES = (line_rounded_down, line_by_exact_mean, line_by_first_end,
                line_with_factors_exchanged, line_to_all, line_of_nothing)
 
-# 1000 thousandths of 63 and of 1, the mean of 0 and 1; chilled, so that all of
-# it goes to the second element: 63,000 and 1000. 62.5 rounded down is 62, the
-# mean of 0 and 0.6 is 0.3.
+# 1000 thousandths of 188 and of 2, the mean of 1 and 2; chilled, so that all of
+# it goes to the second element: 188,000 and 2000. 187.5 rounded down is 187,
+# the mean of 0.6 and 1.6 is 1.1.
 LINES = (
     (player.FRESH,), (player.OPEN, 1),
-    (player.LINE, 1, 1, single(1.0), single(0.0625), span(0.0, 0.0006)),
+    (player.LINE, 1, 1, single(1.0), single(0.1875), span(0.0006, 0.0016)),
     (player.ENROL, 1, 1, 0, 100, 1, 0), (player.ENROL, 1, 2, 1, 300, 1, 0),
     (player.CLOSE, 1), (player.DUMP, 356, 2304), (player.STATEMENT, 1),
     (player.STATEMENT, 2))
@@ -478,7 +480,7 @@ def wrong_where_weighed(check, lists):
 def wrong_lines(check):
     lines = played_wrongly(LINES, "line", calls.line)
     check(broken_by(LINES, lines) is None, "the right program")
-    check(lines[-2:] == ["0 1 0 0 0 0", "0 1 0 63000 1000 64000"], "lines",
+    check(lines[-2:] == ["0 1 0 0 0 0", "0 1 0 188000 2000 190000"], "lines",
           lines[-2:])
     for act in WRONG_LINES:
         lines = played_wrongly(LINES, "line", act)

@@ -48,10 +48,10 @@ WRITTEN_OUT = (
      "14 36 5; 16 -; 16 1; 16 1; 17 1 0; 17 1 0",
      "0; 0 1; 11 0 0; 0 1; 1 0 125000 1000000 0; 15 0; bad record 15"),
     # A line is an entry like any other: a closing divides it, a strike takes
-    # it away. 63,000 and 1000.
-    ("1; 2 1; 16 1; 16 0.0625; 16 0..0.0006; 17 1 0; 16 1; 16 1; 16 1; 17 1 0;"
-     "4 2; 4 2; 5 1 7 0 1 1; 7 1; 8 7",
-     "0; 0 1; 0 1; 0 2; 0; 4; 0 1; 0; 0 1 0 63000 1000 64000"),
+    # it away. 62,000, by 62.5, and 2000, by the mean of 1 and 2.
+    ("1; 2 1; 16 1; 16 0.0625; 16 0.0006..0.002; 17 1 0; 16 1; 16 1; 16 1;"
+     "17 1 0; 4 2; 4 2; 5 1 7 0 1 1; 7 1; 8 7",
+     "0; 0 1; 0 1; 0 2; 0; 4; 0 1; 0; 0 1 0 62000 2000 64000"),
     # Bad records.
     ("16; 16; 16; 16; 1", "bad record 4"),
     ("17; 1", "bad record 1"),
@@ -69,13 +69,15 @@ RECKONED = (
     # 1.0, and 12.5, which is 1.5625 × 2^3.
     ((0x3FF0000000000000,), 1000),
     ((0x4029000000000000,), 12_500),
-    # 2^-4 is 62.5 thousandths; the double below it has a little less.
-    ((0x3FB0000000000000,), 63),
+    # 2^-4 is 62.5 thousandths; the doubles beside it have a little less and a
+    # little more.
+    ((0x3FB0000000000000,), 62),
     ((0x3FAFFFFFFFFFFFFF,), 62),
     ((0x3FB0000000000001,), 63),
     # 3 × 2^-4 is 187.5 thousandths.
     ((0x3FC8000000000000,), 188),
     ((0x3FC7FFFFFFFFFFFF,), 187),
+    ((0x3FC8000000000001,), 188),
     # 0.0005 is 4,611,686,018,427,388 × 2^-63; 1000 times that is 96 × 2^-63
     # above a half, which is 4,611,686,018,427,387,904 × 2^-63. The double
     # below it is 904 × 2^-63 below.
@@ -95,17 +97,20 @@ RECKONED = (
     ((0x41C0000000000000,), 536_870_912_000),
     ((0x416312D000000000,), 10 ** 10),
     ((0x41CDCD6500000000,), 10 ** 12),
-    # 63 and 188: 125.5. 63 and 63. 0 and 63: 31.5.
-    ((0x3FB0000000000000, 0x3FC8000000000000), 126),
-    ((0x3FB0000000000000, 0x3FB0000000000000), 63),
-    ((0x8000000000000000, 0x3FB0000000000000), 32),
-    # 62 and 63: 62.5.
-    ((0x3FAFFFFFFFFFFFFF, 0x3FB0000000000000), 63),
+    # 62 and 188: 125. 62 and 62. 0 and 62: 31. 0 and 63: 31.5.
+    ((0x3FB0000000000000, 0x3FC8000000000000), 125),
+    ((0x3FB0000000000000, 0x3FB0000000000000), 62),
+    ((0x8000000000000000, 0x3FB0000000000000), 31),
+    ((0x8000000000000000, 0x3FB0000000000001), 32),
+    # 62 and 62, 62 and 63: 62.5. 187 and 188: 187.5.
+    ((0x3FAFFFFFFFFFFFFF, 0x3FB0000000000000), 62),
+    ((0x3FB0000000000000, 0x3FB0000000000001), 62),
+    ((0x3FC7FFFFFFFFFFFF, 0x3FC8000000000000), 188),
     # 0 and 10^12, 1000 and 10^12.
     ((0x0000000000000000, 0x41CDCD6500000000), 5 * 10 ** 11),
     ((0x3FF0000000000000, 0x41CDCD6500000000), 500_000_000_500),
-    # 0 and 1, the second by 0.0005; 1 and 1.
-    ((0x3F40624DD2F1A9FB, 0x3F40624DD2F1A9FC), 1),
+    # 0 and 1, the second by 0.0005: 0.5. 1 and 1.
+    ((0x3F40624DD2F1A9FB, 0x3F40624DD2F1A9FC), 0),
     ((0x3F40624DD2F1A9FC, 0x3F40624DD2F1A9FC), 1),
 )
 
@@ -172,11 +177,12 @@ def check_cell(check, cell):
 
 
 def check_nearest(check, double, number):
-    """The number is less than half a thousandth below the double, or half a
-    thousandth or less above it; compared in whole numbers."""
+    """The number is less than half a thousandth from the double, or it is
+    even and half a thousandth from it; compared in whole numbers."""
     above, below = double.as_integer_ratio()
-    check((2 * number - 1) * below <= 2000 * above < (2 * number + 1) * below,
-          "nearest, halves up", double, number)
+    off = 2 * abs(1000 * above - number * below)
+    check(off < below or off == below and number % 2 == 0,
+          "nearest, halves to the even number", double, number)
 
 
 def powers_of_two(check):

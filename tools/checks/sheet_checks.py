@@ -75,10 +75,12 @@ WRITTEN_OUT = (
               (1, 3, 1, 0, 300, 1, 0, 0), (2, 4, 1, 0, 300, 1, 0, 0)]),
      HEADING + b"2 2 1 0 2 2\n3 1 0 0 11 11\n4 1 1 0 0 0\n"
      b"all 4 2 0 13 13\n"),
-    # "Quote 1, 500 kg, 1 m: 1", twice; a quote never waits.
-    (file_of((), (), [(0, 5, 0, 0, 500, 1, 1, 0),
-                      (0, 5, 0, 0, 500, 1, 1, 1)]),
-     HEADING + b"5 2 0 2 1 3\nall 2 0 2 1 3\n"),
+    # 0.5 and 1.5, then 1.5 and 2.5: "The starred quote of half a microgram
+    # becomes 0, and 1.5 stays 2." A quote never waits.
+    (file_of((), (), [(0, 5, 0, 0, 500, 1, 1, 3),
+                      (0, 5, 0, 0, 1500, 1, 1, 0),
+                      (0, 5, 0, 0, 500, 1, 0, 5)]),
+     HEADING + b"5 3 0 2 4 6\nall 3 0 2 4 6\n"),
     # The class total. One chain: 21 over 1, 2 and 20 over 1, 2.
     (file_of([(1, 1)], [(1, 0, 1, 21, 20)],
              [(1, 7, 0, 0, 1, 1, 0, 0), (1, 7, 0, 0, 2, 1, 0, 0)]),

@@ -12,15 +12,16 @@ FED = (
     ("enrol", (1, 7, 0, 20, 30), 0), ("enrol", (1, 7, 400, 2, 3), 0),
     ("enrol", (1, 7, 99, 2, 3), 3), ("enrol", (2, 10_000, 2, 50, 0), 0),
     ("enrol", (1, 7, 400, 2, 3, 75), 14), ("enrol", (1, 7, 400, 2, 3, 301), 7),
-    # 0.5 and 0.499; 1.5 and 2.499; 600,000 × 1000 × 1,000,000 / 1000.
-    ("quote", (5, 0, 500, 1, 1, 0), 0), ("quote", (5, 0, 499, 1, 1, 1), 0),
+    # 0.5 and 1.5, 0.499 and 0.998; 1.5 and 2.499; 600,000 × 1000 ×
+    # 1,000,000 / 1000.
+    ("quote", (5, 0, 500, 1, 1, 3), 0), ("quote", (5, 0, 499, 1, 1, 2), 0),
     ("quote", (5, 0, 1, 3, 500, 833), 0), ("quote", (5, 2, 1, 1, 1, 1), 3),
     ("quote", (6, 1, 1000, 905_000, 600_000, 1), 0),
     # The stated mass is not in the activity.
     ("open", (2,), 0), ("enrol", (3, 8, 400, 2, 3, 75), 0),
     ("enrol", (3, 8, 100, 2, 3, 300), 0),
     ("close", (2,), 9), ("close", (1,), 0), ("close", (1,), 4),
-    # 500 of 63, and of 2, the mean of 1 and 2.
+    # 500 of 62, which is 62.5, and of 2, the mean of 1 and 2.
     ("line", (2, 1, single(0.5), single(0.0625), span(0.001, 0.002)), 0),
     ("line", (2, 1, single(0.5), BLANK, single(1.0)), 15),
     ("line", (2, 1, single(0.5), span(2.0, 1.0), single(1.0)), 16),
@@ -43,7 +44,7 @@ def by_hand(check):
           "categories", tally.categories)
     check(tally.entries == {1: Entry(1, 0, 7000, 9000, True),
                             2: Entry(2, 2, 10 ** 18, 0, False),
-                            3: Entry(2, 1, 31_500, 1000, False),
+                            3: Entry(2, 1, 31_000, 1000, False),
                             4: Entry(3, 0, 0, 0, False),
                             5: Entry(3, 0, 9_000_000, 0, True)},
           "entries", tally.entries)
@@ -51,7 +52,7 @@ def by_hand(check):
         1: Enrolled(1, 7, 0, 20, 30, 600, 0),
         2: Enrolled(1, 7, 400, 2, 3, 2400, 0),
         3: Enrolled(2, 10_000, 2, 50, 0, 50, 0),
-        4: Quoted(5, 1, 0), 5: Quoted(5, 0, 0), 6: Quoted(5, 2, 2),
+        4: Quoted(5, 0, 2), 5: Quoted(5, 0, 1), 6: Quoted(5, 2, 2),
         7: Quoted(6, 600_000_000_000, 1_000_000),
         8: Enrolled(3, 8, 400, 2, 3, 2400, 75),
         9: Enrolled(3, 8, 100, 2, 3, 600, 300)},

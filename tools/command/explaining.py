@@ -11,8 +11,9 @@ from fractions import Fraction
 from calculation.book import (
     AIR_DEFAULT, AMOUNTS, FREIGHT_CODES, GROUPS, HUB, PASSENGER_CODES, QUOTED,
     is_weighed, total)
-from calculation.closing import COLD_GROUPS, Sums, nearest
+from calculation.closing import COLD_GROUPS, Sums
 from calculation.dividing import portions_of
+from calculation.rounding import nearest
 from calculation.sheet import used_chains
 from command.amounts import (
     LEFT, RIGHT, aligned, counted, emissions, grouped, tonnes)
