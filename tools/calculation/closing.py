@@ -117,19 +117,25 @@ def divisors(sums, code):
     return [sums.F]
 
 
-def intensity_of(sums, code, amount):
-    """An intensity whose divisors are above 0: "each quotient below is
-    rounded to nearest, [...] and then added"; "Halves go to the even number."
-    """
+def quotients(sums, code, amount):
+    """What is divided for an intensity, and by what: one pair or two."""
     freight_part, passenger_part = sums.parts(amount)
     if code == LOWEST_CLASS:
         # "Code 100, mg per lowest-class passenger-km: passenger part × 100 /
         # C."
-        return nearest(passenger_part * 100, sums.C)
+        return [(passenger_part * 100, sums.C)]
     # "Freight in mg per tonne-km: freight part × 1000 / F, plus B × 1000 / S
     # for 1 and 2. Hub, mg per tonne: the same without 1000."
     scale = 1 if sums.kind == HUB else 1000
-    result = nearest(freight_part * scale, sums.F)
+    found = [(freight_part * scale, sums.F)]
     if code in COLD_GROUPS:
-        result += nearest(sums.B(code, amount) * scale, sums.S(code))
-    return result
+        found.append((sums.B(code, amount) * scale, sums.S(code)))
+    return found
+
+
+def intensity_of(sums, code, amount):
+    """An intensity whose divisors are above 0: "each quotient below is
+    rounded to nearest, [...] and then added"; "Halves go to the even number."
+    """
+    return sum(nearest(number, divisor)
+               for number, divisor in quotients(sums, code, amount))

@@ -70,15 +70,24 @@ def is_exchanged(cell):
 
 # Its number.
 
-def converted(cell):
+def thousandths_of(value):
     """"A double becomes the nearest whole thousandth of its exact binary
-    value"; "A span becomes the mean of its two converted ends"; "Halves go to
-    the even number."
+    value"; "Halves go to the even number."
     """
+    return nearest(1000 * value.numerator, value.denominator)
+
+
+def mean_of(first, second):
+    """"A span becomes the mean of its two converted ends"; "also the mean of
+    a span" follows the even number.
+    """
+    return nearest(first + second, 2)
+
+
+def converted(cell):
+    """The whole thousandths that a cell becomes."""
     values = values_of(cell)
     if cell == BLANK or None in values:
         raise NoNumber
-    ends = [nearest(1000 * value.numerator, value.denominator)
-            for value in values]
-    # The mean of one is itself.
-    return nearest(sum(ends), len(ends))
+    ends = [thousandths_of(value) for value in values]
+    return mean_of(*ends) if len(ends) == 2 else ends[0]

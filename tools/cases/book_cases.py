@@ -8,7 +8,8 @@ from cases import (
     call_cases, closing_cases, conservation_cases, file_cases, intensity_cases,
     line_cases, preview_cases, random_cases, soundness_cases, statement_cases,
     weighed_cases)
-from cases.book_writer import SORTS, BookCases
+from cases.book_writer import SORTS, BookCases, added
+from cases.halves import demand_halves
 
 SEED = 2404
 
@@ -66,26 +67,23 @@ def sorts_of_closings():
                                    "weighed passengers with groups")]
 
 
-def added(counts, before):
-    """What came to the counts since."""
-    return {key: number - before.get(key, 0)
-            for key, number in counts.items() if number > before.get(key, 0)}
-
-
-def add_random(cases, add_them):
-    """Adds random cases; every sort of closing must be among them."""
-    before = dict(cases.closings)
+def add_random(cases, add_them, *halves):
+    """Adds random cases; every sort of closing must be among them, and halves
+    of both sides in these places."""
+    before, before_halves = dict(cases.closings), dict(cases.halves)
     add_them()
     closings = added(cases.closings, before)
     for sort in sorts_of_closings():
         if closings.get(sort, 0) < 5:
             raise SystemExit("few random closings of sort: " + sort)
+    demand_halves(added(cases.halves, before_halves), *halves)
 
 
 def add_long_lists(cases, possible):
     """The long lists; every answer but 1 must be among theirs."""
     before = dict(cases.answers)
-    add_random(cases, lambda: conservation_cases.add(cases))
+    add_random(cases, lambda: conservation_cases.add(cases),
+               "quote", "cell", "mean")
     cases.in_lists = added(cases.answers, before)
     missing = [key for key in possible
                if key[1] != 1 and key not in cases.in_lists]
@@ -107,7 +105,8 @@ def add(plain_cases):
     weighed_cases.add(cases)
     line_cases.add(cases)
     preview_cases.add(cases)
-    add_random(cases, lambda: random_cases.add(cases, rng))
+    add_random(cases, lambda: random_cases.add(cases, rng),
+               "quote", "cell", "mean", "intensity")
     add_long_lists(cases, possible)
     file_cases.add(cases)
     # The cases reckoned by hand have the same outcome after all the others.

@@ -4,6 +4,7 @@ from calculation import book, closing, player
 from calculation.book import CATEGORIES, ELEMENTS, ENTRIES, word
 from calculation.calls import PAIR_WORDS
 from cases import file_writer
+from cases.halves import halves_of
 from cases.line_writer import line_records, single
 
 LARGEST = 2 ** 64 - 1
@@ -50,6 +51,12 @@ def count(counts, key):
     counts[key] = counts.get(key, 0) + 1
 
 
+def added(counts, before):
+    """What came to the counts since."""
+    return {key: number - before.get(key, 0)
+            for key, number in counts.items() if number > before.get(key, 0)}
+
+
 class BookCases:
     """Adds calls and keeps count of what they tested."""
 
@@ -58,6 +65,7 @@ class BookCases:
         self.answers = {}   # (call, refusal number) -> how many
         self.pairs = {}     # (call, ground, later ground) -> how many
         self.closings = {}  # sort of accepted closing -> how many
+        self.halves = {}    # (where it is rounded, side) -> how many
         self.lists = []     # for each long list: played() before and after
         self.in_lists = {}  # the same as answers, of the long lists alone
         self.loads = {}     # (number, call or none, its place) -> how many
@@ -77,6 +85,8 @@ class BookCases:
             raise AssertionError("%s%r shows %r, not %r"
                                  % (name, arguments, numbers[1:], shows))
         count(self.answers, (name, numbers[0]))
+        if numbers[0] == 0:
+            self.note_halves(name, arguments)
         if name == "close" and numbers[0] == 0:
             count(self.closings, sort_of_closing(self.words, arguments[0]))
         return numbers
@@ -159,7 +169,15 @@ class BookCases:
         self.new_stop = table > 0 and (number, *stop) not in self.loads
         count(self.loads, (number, *stop))
         self.loaded.append((before, self.played()))
+        if number == 0:
+            for arguments in file_writer.quotes_of(data):
+                self.note_halves("quote", arguments)
         return numbers
+
+    def note_halves(self, name, arguments):
+        """Counts the halves that an accepted call rounds."""
+        for half in halves_of(name, self.words, arguments):
+            count(self.halves, half)
 
     def load_and_show(self, data, gives=(0, 0, 0)):
         """Loads a file and shows the words that matter: all of the book

@@ -11,7 +11,7 @@ from calculation import book, calls
 from calculation.book import CATEGORIES, CHAINS, ELEMENTS
 from cases.random_cases import LARGE, one_of, random_call, wild_call
 
-SEED = 83
+SEED = 88
 
 # How many calls a list has, how many bits the measures of elements and those
 # of entries have at most, and whether every chain is asked for at its end.

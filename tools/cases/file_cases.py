@@ -8,13 +8,14 @@ import random
 
 from calculation import book, player
 from cases import file_header_cases, file_stop_cases
-from cases.book_writer import LARGEST
+from cases.book_writer import LARGEST, added
 from cases.file_header_cases import LOADED, SLICE, hold
 from cases.file_parts import (
     CATEGORIES, ELEMENTS, ENTRIES, FREIGHT, PARTS, WHOLE, changed,
     full_categories, full_elements, full_entries, full_parts)
 from cases.file_writer import (
     CHUNK, EXAMPLE, EXAMPLE_PARTS, MOST_BYTES, cut_to, file_of, with_header)
+from cases.halves import demand_halves
 from cases.random_files import changed_byte, changed_header, random_file
 
 SEEDS = (32, 48, 216)
@@ -290,8 +291,10 @@ def add(cases):
     full_books(cases)
     file_header_cases.add(cases)
     file_stop_cases.add(cases)
+    before = dict(cases.halves)
     for seed in SEEDS:
         random_files(cases, random.Random(seed))
+    demand_halves(added(cases.halves, before), "quote")
     # The example has the same outcome after all the others.
     cases.load(EXAMPLE)
     statements_of_example(cases)

@@ -106,6 +106,12 @@ def flagged(data):
             in enumerate(table_records(data, 1), 1) if flag == 1]
 
 
+def quotes_of(data):
+    """The arguments of its quotes."""
+    return [(chain, adjust, *measures) for category, chain, _, adjust,
+            *measures in table_records(data, 3) if category == 0]
+
+
 def stop_of(data, table, record):
     """The call that a load stopped at, and whether it was the first of its
     table, the last, the only one or in the middle."""

@@ -473,6 +473,8 @@ def main(arguments):
     print("%6d pairs of grounds in order" % len(of_book.pairs))
     for sort in book_cases.sorts_of_closings():
         print("%6d closings: %s" % (of_book.closings[sort], sort))
+    for (where, side), count in sorted(of_book.halves.items()):
+        print("%6d halves above an %s number: %s" % (count, side, where))
     for (number, *stop), count in sorted(
             of_book.loads.items(), key=lambda item: (item[0][0], str(item))):
         print("%6d loads give %d%s" % (count, number, place_of_stop(*stop)))

@@ -37,6 +37,30 @@ def random_measure(rng, numbers, scale):
     return max(numbers[0], min(number, numbers[-1], 2 ** scale))
 
 
+def odd_multiple(number, part):
+    """The odd multiple of the part that comes next below the number, or the
+    part itself."""
+    return part * max(1, number // part - 1 | 1)
+
+
+# Odd multiples of these as mass, distance and intensity leave 500 by 1000,
+# also where 95,000 m are added to the distance.
+HALF_QUOTES = ((500, 1, 1), (1, 500, 1), (1, 1, 500), (4, 125, 1),
+               (25, 1, 20))
+
+
+def some_halves(rng, mass, distance, *intensities):
+    """The measures of a quote. In every other one they are changed so that
+    most amounts are a half."""
+    if rng.randrange(2) == 0:
+        return mass, distance, *intensities
+    of_mass, of_distance, of_intensity = one_of(rng, HALF_QUOTES)
+    return (odd_multiple(mass, of_mass), odd_multiple(distance, of_distance),
+            *(intensity if rng.randrange(4) == 0
+              else odd_multiple(intensity, of_intensity)
+              for intensity in intensities))
+
+
 def random_kg_per_head(words, rng, category, code, strange=16):
     """Weighed or not as the earlier passengers of the category; one in
     `strange` is the reverse, none where that is 0."""
@@ -63,12 +87,20 @@ def random_stated_mass(rng):
 # Cells of lines.
 
 def random_cell(rng, numbers, scale):
-    """A measure in thousandths, with sixteenths of one; every fourth cell is
-    a span."""
-    ends = sorted(min(16 * random_measure(rng, numbers, scale)
-                      + rng.randrange(16), 16 * numbers[-1])
+    """One end, or the two of a span in every fourth cell."""
+    ends = sorted(random_end(rng, random_measure(rng, numbers, scale),
+                             numbers[-1])
                   for _ in range(2 if rng.randrange(4) == 0 else 1))
-    return tuple(bits(end / 16_000) for end in ends)
+    return tuple(map(bits, ends))
+
+
+def random_end(rng, thousandths, most):
+    """A measure in thousandths, with sixteenths of one. In every fourth end
+    it is an odd number of sixteenths of a unit, which is a half."""
+    if rng.randrange(4) == 0:
+        sixteenths = 16 * thousandths // 1000 + rng.randrange(4)
+        return odd_multiple(min(sixteenths, 16 * most // 1000), 1) / 16
+    return min(16 * thousandths + rng.randrange(16), 16 * most) / 16_000
 
 
 NOTABLE = (ZERO, NEGATIVE_ZERO, SUBNORMAL, SIGN | SUBNORMAL, NORMAL,
@@ -86,8 +118,8 @@ def value_that_matters(rng):
 
 
 def any_double(rng):
-    """Any bits, an exponent from 2^-13 to 2^30, or beside a value that
-    matters."""
+    """Any bits, an exponent from 2^-13 to 2^30, a half of a thousandth, or
+    beside a value that matters."""
     sort = rng.randrange(12)
     if sort == 0:
         return rng.getrandbits(64)
@@ -95,6 +127,8 @@ def any_double(rng):
         return one_of(rng, NOTABLE)
     if sort < 5:
         return 1010 + rng.randrange(44) << 52 | rng.getrandbits(52)
+    if sort < 7:
+        return bits((2 * by_bits(rng, 33) + 1) / 16)
     return beside(rng, bits(value_that_matters(rng)))
 
 
@@ -152,9 +186,9 @@ def random_call(cases, rng, scale, scale_of_posts=None):
                          0 if kind == 4 else measure(book.DISTANCES),
                          random_kg_per_head(words, rng, category, code))
     if sort < 100:
-        return "quote", (chain, rng.randrange(2), measure(book.MASSES),
-                         measure(book.DISTANCES), measure(book.INTENSITIES),
-                         measure(book.INTENSITIES))
+        return "quote", (chain, rng.randrange(2), *some_halves(
+            rng, measure(book.MASSES), measure(book.DISTANCES),
+            measure(book.INTENSITIES), measure(book.INTENSITIES)))
     if sort < 103:
         return "close", (category,)
     if sort < 110:
@@ -293,6 +327,41 @@ def lists_of_closings(cases, rng):
         cases.dump_book()
 
 
+def lists_of_halves(cases, rng):
+    """Categories whose intensities are often a half: few remainders are left
+    by what they are divided by."""
+    for _ in range(12):
+        kinds = [one_of(rng, (1, 2, 3, 4)) for _ in range(6)]
+        cases.new_book(*kinds)
+        for category, kind in enumerate(kinds, 1):
+            members = members_for_halves(rng, kind)
+            for code, amount, distance in members:
+                cases.enrol(category, category, code, amount, distance)
+            for group in {0, *(code for code, *_ in members if code < 3)}:
+                for _ in range(1 + rng.randrange(2)):
+                    cases.post(category, group, 1, by_bits(rng, 30),
+                               by_bits(rng, 30))
+        close_all(cases)
+        cases.dump_book()
+
+
+def members_for_halves(rng, kind):
+    """The code, amount and distance of elements with an F, S and C that are
+    few times 2000 or 16, 2 in a hub, 200 for passengers."""
+    members = []
+    if kind != 2:
+        part = 2 if kind == 4 else one_of(rng, (2000, 400, 80, 16))
+        for code in one_of(rng, ((0,), (1,), (2,), (0, 1), (1, 2),
+                                 (0, 1, 2))):
+            activity = part * (1 + rng.randrange(2))
+            distance = 0 if kind == 4 else one_of(rng, (1, 2, 4, 8))
+            members.append((code, activity // max(1, distance), distance))
+    if kind in (2, 3):
+        members.append((one_of(rng, (100, 200, 400)), 2,
+                        1 + rng.randrange(2)))
+    return members
+
+
 def random_member(words, rng, category, kind, scale):
     """The arguments of an enrolment that suits the kind."""
     passengers = kind == 2 or kind == 3 and rng.randrange(2) == 0
@@ -318,3 +387,4 @@ def add(cases, rng):
     wild_lists(cases, rng)
     lists_with_damage(cases, rng)
     lists_of_closings(cases, rng)
+    lists_of_halves(cases, rng)

@@ -2,7 +2,8 @@
 
 from cases import file_writer
 from cases.file_writer import LARGEST_U32, MOST_BYTES, file_of
-from cases.random_cases import by_bits, one_of, random_stated_mass
+from cases.random_cases import (
+    by_bits, one_of, random_stated_mass, some_halves)
 
 CATEGORIES, ENTRIES, ELEMENTS = 16, 64, 256  # the limits
 
@@ -34,8 +35,8 @@ def random_element(rng, kinds, weighed, bits):
     amount = 1 + by_bits(rng, bits)
     distance = 1 + by_bits(rng, bits)
     if not kinds or rng.randrange(5) == 0:
-        return (0, chain, 0, rng.randrange(2), amount, distance,
-                by_bits(rng, 20), by_bits(rng, 20))
+        return (0, chain, 0, rng.randrange(2), *some_halves(
+            rng, amount, distance, by_bits(rng, 20), by_bits(rng, 20)))
     category = 1 + rng.randrange(len(kinds))
     kind = kinds[category - 1]
     passengers = kind == 2 or kind == 3 and rng.randrange(2) == 0
