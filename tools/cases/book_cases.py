@@ -6,8 +6,8 @@ from itertools import combinations
 from calculation.second_way import CHECKING_ORDER, number_of
 from cases import (
     call_cases, closing_cases, conservation_cases, file_cases, intensity_cases,
-    line_cases, preview_cases, random_cases, soundness_cases, statement_cases,
-    weighed_cases)
+    line_cases, preview_cases, random_cases, rounding_cases, soundness_cases,
+    statement_cases, weighed_cases)
 from cases.book_writer import SORTS, BookCases, added
 from cases.halves import demand_halves
 
@@ -105,6 +105,7 @@ def add(plain_cases):
     weighed_cases.add(cases)
     line_cases.add(cases)
     preview_cases.add(cases)
+    rounding_cases.add(cases)
     add_random(cases, lambda: random_cases.add(cases, rng),
                "quote", "cell", "mean", "intensity")
     add_long_lists(cases, possible)

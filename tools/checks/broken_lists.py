@@ -414,9 +414,9 @@ WEIGHED = (
 WRONG_LINES = (line_rounded_down, line_by_exact_mean, line_by_first_end,
                line_with_factors_exchanged, line_to_all, line_of_nothing)
 
-# 1000 thousandths of 188 and of 2, the mean of 1 and 2; chilled, so that all of
-# it goes to the second element: 188,000 and 2000. 187.5 rounded down is 187,
-# the mean of 0.6 and 1.6 is 1.1.
+# 1000 thousandths of 188 and of 2, the mean of 1 and 2; chilled, so that all
+# of it goes to the second element: 188,000 and 2000. 187.5 rounded down is
+# 187, the mean of 0.6 and 1.6 is 1.1.
 LINES = (
     (player.FRESH,), (player.OPEN, 1),
     (player.LINE, 1, 1, single(1.0), single(0.1875), span(0.0006, 0.0016)),
