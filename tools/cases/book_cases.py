@@ -67,7 +67,7 @@ def sorts_of_closings():
                                    "weighed passengers with groups")]
 
 
-def add_random(cases, add_them, *halves):
+def add_random(cases, add_them, halves):
     """Adds random cases; every sort of closing must be among them, and halves
     of both sides in these places."""
     before, before_halves = dict(cases.closings), dict(cases.halves)
@@ -76,14 +76,14 @@ def add_random(cases, add_them, *halves):
     for sort in sorts_of_closings():
         if closings.get(sort, 0) < 5:
             raise SystemExit("few random closings of sort: " + sort)
-    demand_halves(added(cases.halves, before_halves), *halves)
+    demand_halves(added(cases.halves, before_halves), halves)
 
 
 def add_long_lists(cases, possible):
     """The long lists; every answer but 1 must be among theirs."""
     before = dict(cases.answers)
     add_random(cases, lambda: conservation_cases.add(cases),
-               "quote", "cell", "mean")
+               ("quote", "cell", "mean"))
     cases.in_lists = added(cases.answers, before)
     missing = [key for key in possible
                if key[1] != 1 and key not in cases.in_lists]
@@ -107,7 +107,7 @@ def add(plain_cases):
     preview_cases.add(cases)
     rounding_cases.add(cases)
     add_random(cases, lambda: random_cases.add(cases, rng),
-               "quote", "cell", "mean", "intensity")
+               ("quote", "cell", "mean", "intensity"))
     add_long_lists(cases, possible)
     file_cases.add(cases)
     # The cases reckoned by hand have the same outcome after all the others.

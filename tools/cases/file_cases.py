@@ -294,7 +294,7 @@ def add(cases):
     before = dict(cases.halves)
     for seed in SEEDS:
         random_files(cases, random.Random(seed))
-    demand_halves(added(cases.halves, before), "quote")
+    demand_halves(added(cases.halves, before), ("quote",))
     # The example has the same outcome after all the others.
     cases.load(EXAMPLE)
     statements_of_example(cases)

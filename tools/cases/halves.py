@@ -15,13 +15,13 @@ SIDES = ("even", "odd")
 FEWEST = 10
 
 
-def demand_halves(counts, *places):
-    """Ends the run where random cases have few halves in one of the places,
-    on either side."""
+def demand_halves(counts, places, fewest=FEWEST):
+    """Ends the run where there are few halves in one of the places, on either
+    side."""
     for where in places:
         for side in SIDES:
-            if counts.get((where, side), 0) < FEWEST:
-                raise SystemExit("few random halves above an %s number: %s"
+            if counts.get((where, side), 0) < fewest:
+                raise SystemExit("few halves above an %s number: %s"
                                  % (side, where))
 
 

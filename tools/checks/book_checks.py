@@ -8,11 +8,12 @@ from calculation.second_loading import second_load
 from calculation.second_way import Lists, is_sound_by_words, second_way
 from cases import book_cases
 from cases.file_writer import load_records
+from cases.halves import demand_halves, halves_of
 from cases.line_writer import (
     BLANK, INFINITY, NANS, NEGATIVE_ZERO, SUBNORMAL, ZERO, bits, single, span)
 from checks import (
     broken_lists, closing_checks, conservation_checks, file_checks,
-    line_checks, preview_checks, tally_checks)
+    line_checks, preview_checks, rounding_checks, tally_checks)
 
 SEED = 64
 LARGEST = 2 ** 64 - 1
@@ -216,6 +217,7 @@ def cases_by_both_ways(check):
     check(lists[0][2].tally.elements == {}, "the empty list")
     check(len(dict(lists[-1][2].statements)) == 10_000, "every chain")
     broken_lists.run(check, lists[1:-1])
+    rounding_checks.wrong_in_lists(check, lists[1][0])
 
 
 # Random calls.
@@ -237,15 +239,17 @@ USUAL = {
              (0, 1, 10 ** 6, 10 ** 7), (0, 1, 10 ** 6, 10 ** 7)),
     "line": ((1, 2, 3, 4), (0, 0, 1, 2),
              (single(0.001), span(0.5, 2.5), single(1e6), single(1e9)),
-             (single(-0.0), single(0.0625), single(1e3), span(0.0, 1e4)),
-             (single(0.0), single(0.0005), single(1e4), span(1.0, 1e3))),
+             (single(-0.0), single(0.0625), single(1e3), span(0.0, 1e4),
+              span(0.001, 0.002)),
+             (single(0.0), single(0.0005), single(1e4), span(1.0, 1e3),
+              single(0.1875), span(0.002, 0.003))),
     "strike": ((1, 2, 3, 5, 8, 13, 21, 34, 55),),
     "enrol": ((1, 2, 3, 4), (1, 2, 3, 10_000), (0, 1, 2, 100, 400, 1000),
               (1, 500, 10 ** 6, 10 ** 9, 10 ** 9),
               (0, 1, 500, 40_000_000, 40_000_000), (0, 0, 0, 0, 80, 300)),
     "quote": ((1, 2, 3, 10_000), (0, 1), (1, 499, 500, 10 ** 9),
-              (1, 500, 905_000, 40_000_000), (0, 1, 499, 500, 10 ** 9),
-              (0, 1, 499, 500, 10 ** 9)),
+              (1, 500, 905_000, 40_000_000), (0, 1, 3, 499, 500, 10 ** 9),
+              (0, 1, 3, 499, 500, 10 ** 9)),
     "close": ((1, 2, 3, 4),),
     "preview": ((1, 2, 3, 4), (512,)),
     "statement": ((1, 2, 3, 10_000),),
@@ -272,6 +276,7 @@ def random_calls(check):
     """Calls by both ways, and what holds of each."""
     rng = random.Random(SEED)
     met = set()
+    halves = {}
     for number in range(40):
         words = [rng.getrandbits(64) for _ in range(2669)]
         after = words[2660:]
@@ -295,6 +300,9 @@ def random_calls(check):
                   case)
             check(words[2660:] == after, "the words after the book", case)
             check_change(check, name, numbers, before, words, case)
+            if numbers[0] == 0:
+                for half in halves_of(name, words, arguments):
+                    halves[half] = halves.get(half, 0) + 1
             if name == "close" and numbers == [0]:
                 closing_checks.check_closing(check, before, words,
                                              arguments[0])
@@ -312,6 +320,7 @@ def random_calls(check):
     ):
         for number in numbers:
             check((name, number) in met, "not met", name, number)
+    demand_halves(halves, ("quote", "cell", "mean"))
 
 
 def close_anyhow(lists, words, rng):
@@ -490,6 +499,7 @@ def run(check):
     closing_checks.run(check)
     tally_checks.by_hand(check)
     line_checks.run(check)
+    rounding_checks.run(check)
     preview_checks.run(check)
     lengths(check)
     full_lists(check)

@@ -5,10 +5,11 @@
 
 PROGRAM is the path of an executable that plays records from its standard
 input. Every power of two is tried in every cell, with the doubles beside it
-and as an end of a span; then so many random lines, which the seed makes. The
-refusal number of each line is compared and the words of the entry that it
-made. Prints `N lines agree, M of them posted`, or the first difference with
-exit status 1.
+and as an end of a span; then halves of a thousandth above even and odd
+numbers, and spans whose mean is a half; then so many random lines, which the
+seed makes. The refusal number of each line is compared and the words of the
+entry that it made. Prints `N lines agree, M of them posted`, or the first
+difference with exit status 1. Few halves among those posted are an error too.
 """
 
 import os
@@ -20,8 +21,11 @@ sys.path.insert(0, os.path.dirname(os.path.dirname(os.path.abspath(__file__))))
 
 from calculation import player
 from calculation.book import ENTRIES, MARK, size
+from cases.book_writer import count as count_one
+from cases.halves import demand_halves, halves_of
+from cases.line_cases import beside
 from cases.line_writer import (
-    SIGN, ZERO, bits, line_records, power_bits, single)
+    SIGN, ZERO, bits, line_records, power_bits, single, span)
 from cases.random_cases import any_cell
 from checks import check_endings
 from checks.check_endings import dump, record
@@ -29,6 +33,7 @@ from checks.check_endings import dump, record
 SEED = 1
 COUNT = 100_000
 PLAYED_AT_ONCE = 5000  # lines
+FEWEST_HALVES = 500    # of each sort
 
 ONE = single(0.001)
 START = record(player.FRESH) + record(player.OPEN, 1)
@@ -59,6 +64,20 @@ def powers_of_two():
                      (SIGN | double,), (ZERO, double), (double, double),
                      (double, bits(1.0))):
             yield from in_each_place(cell)
+
+
+def halves():
+    """Odd numbers of sixteenths, which alone are halves of a thousandth, and
+    the doubles beside them; ends whose mean is a half."""
+    for number in (*range(1, 201, 2), *range(16 * 10 ** 7 - 9, 16 * 10 ** 7, 2),
+                   *range(16 * 10 ** 9 - 9, 16 * 10 ** 9, 2)):
+        below, half, above = beside(bits(number / 16))
+        for cell in ((half,), (below,), (above,), (half, half), (ZERO, half),
+                     (half, above)):
+            yield from in_each_place(cell)
+    for first in (*range(120), *range(10 ** 10 - 9, 10 ** 10 - 5)):
+        for more in (1, 3, 5):
+            yield from in_each_place(span(first / 1000, (first + more) / 1000))
 
 
 def random_lines(rng, count):
@@ -105,8 +124,9 @@ def shown(cell):
     return "..".join("%016x" % double for double in cell) or "blank"
 
 
-def posted(program, lines):
-    """How many lines are posted; ends where the program differs."""
+def posted(program, lines, met):
+    """How many lines are posted; ends where the program differs. Adds their
+    halves to those met."""
     data = START + b"".join(records_of(*line) for line in lines)
     wanted = player.play(data)
     output, status = check_endings.run(program, data)
@@ -117,7 +137,12 @@ def posted(program, lines):
                 for text in (output, wanted))), status))
     if status < 0:
         raise SystemExit("the program was ended by signal %d" % -status)
-    return wanted.splitlines()[2::2].count(b"0 1")
+    found = [line for (line, _), answer
+             in zip(lines, wanted.splitlines()[2::2]) if answer == b"0 1"]
+    for line in found:
+        for half in halves_of("line", None, line):
+            count_one(met, half)
+    return len(found)
 
 
 def main(arguments):
@@ -128,9 +153,13 @@ def main(arguments):
     program = os.path.abspath(arguments[0])
     seed = int(arguments[1]) if len(arguments) > 1 else SEED
     count = int(arguments[2]) if len(arguments) > 2 else COUNT
-    lines = chain(powers_of_two(), random_lines(random.Random(seed), count))
-    print("%d lines agree, %d of them posted" % check_endings.in_parts(
-        lines, PLAYED_AT_ONCE, lambda some: posted(program, some)))
+    lines = chain(powers_of_two(), halves(),
+                  random_lines(random.Random(seed), count))
+    met = {}
+    agree = check_endings.in_parts(
+        lines, PLAYED_AT_ONCE, lambda some: posted(program, some, met))
+    demand_halves(met, ("cell", "mean"), FEWEST_HALVES)
+    print("%d lines agree, %d of them posted" % agree)
     return 0
 
 

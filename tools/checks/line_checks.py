@@ -6,6 +6,7 @@ import struct
 import records
 from calculation import calls, workbook
 from calculation.second_way import cell_grounds, doubles_of, number_in
+from cases.halves import demand_halves, halves_of
 from cases.line_writer import (
     BLANK, INFINITY, LARGEST_FINITE, NANS, NEGATIVE_ZERO, NORMAL, SIGN,
     SUBNORMAL, ZERO, bits, power_bits, single, span)
@@ -172,8 +173,13 @@ def check_cell(check, cell):
           "16 by both ways", cell)
     number = workbook.converted(cell)
     check(number == number_in(cell), "the number by both ways", cell)
+    ends = []
     for double in doubles_of(cell):
-        check_nearest(check, double, workbook.converted((bits(double),)))
+        ends.append(workbook.converted((bits(double),)))
+        check_nearest(check, double, ends[-1])
+    # The mean is exact, or half a thousandth off and even.
+    off = abs(2 * number - ends[0] - ends[-1])
+    check(off == 0 or off == 1 and number % 2 == 0, "the mean", cell, number)
 
 
 def check_nearest(check, double, number):
@@ -197,11 +203,16 @@ def powers_of_two(check):
 def random_cells(check):
     rng = random.Random(SEED)
     good = 0
+    met = {}
     for _ in range(RANDOM_CELLS):
         cell = any_cell(rng)
         check_cell(check, cell)
-        good += not workbook.is_unusable(cell, 10 ** 9)
+        if not workbook.is_unusable(cell, 10 ** 9):
+            good += 1
+            for half in halves_of("line", None, (1, 0, cell)):
+                met[half] = met.get(half, 0) + 1
     check(RANDOM_CELLS // 2 < good < 9 * RANDOM_CELLS // 10, "good ones", good)
+    demand_halves(met, ("cell", "mean"), RANDOM_CELLS // 20)
 
 
 def whole_numbers(check):
