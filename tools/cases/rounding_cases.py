@@ -113,9 +113,9 @@ def adjusted_quotes(cases):
     cases.dump_book()
 
 
-# Mass, distance, intensity and the share: a half more than that or a half
-# less. The products are 10^21 but for some 10,000, in the last four rows 2^64
-# but for some.
+# Adjust, mass, distance, intensity and the share, from which the exact amount
+# is half a µg away: 10^18 less 3.5, 7.5, 34.5 and 40.5 µg. In the last four
+# rows the product is a little below 2^64 or above it.
 LARGE_QUOTES = (
     (0, 871_238_915, 1172, 979_343_675, EMISSIONS - 4),
     (1, 39_173_747, 4500, 256_555_781, EMISSIONS - 4),
@@ -295,8 +295,8 @@ def files_with_quotes(cases):
                           provision * half)]), gives)
 
 
-# Intensities: each has a category of its own. A is what is divided by 2, or B
-# where the group is asked for; kind, elements and code.
+# Intensities whose quotient is half of what is posted: kind, the group that it
+# is posted to, elements and the code that is asked for.
 
 HALVED = (
     # F is 2000 and the quotient A × 1000 / 2000.

@@ -69,7 +69,8 @@ def powers_of_two():
 def halves():
     """Odd numbers of sixteenths, which alone are halves of a thousandth, and
     the doubles beside them; ends whose mean is a half."""
-    for number in (*range(1, 201, 2), *range(16 * 10 ** 7 - 9, 16 * 10 ** 7, 2),
+    for number in (*range(1, 201, 2),
+                   *range(16 * 10 ** 7 - 9, 16 * 10 ** 7, 2),
                    *range(16 * 10 ** 9 - 9, 16 * 10 ** 9, 2)):
         below, half, above = beside(bits(number / 16))
         for cell in ((half,), (below,), (above,), (half, half), (ZERO, half),
