@@ -54,6 +54,12 @@ def whole(rng):
     return [single(float(rng.randrange(1, 10 ** 6))) for _ in range(3)]
 
 
+def halves(rng):
+    """A whole number of thousandths and a half: odd sixteenths."""
+    return [single((2 * rng.randrange(8 * 10 ** 6) + 1) / 16)
+            for _ in range(3)]
+
+
 def two_numbers(rng):
     """The third cell is blank."""
     return numbers(rng)[:2] + [BLANK]
@@ -90,8 +96,8 @@ def main():
         raise SystemExit("usage: cells.py DIRECTORY")
     for name, cells in (
         ("blank", blank), ("numbers", numbers), ("spans", spans),
-        ("tiny", tiny), ("whole", whole), ("two-numbers", two_numbers),
-        ("any", any_cells),
+        ("tiny", tiny), ("whole", whole), ("halves", halves),
+        ("two-numbers", two_numbers), ("any", any_cells),
     ):
         rng = random.Random(SEED)
         write(sys.argv[1], name, [cells(rng) for _ in range(LINES)])

@@ -34,7 +34,7 @@ enum Cell {
     Span(u64, u64),
 }
 
-// The nearest thousandth, halves up. The bits of doubles from 0 up are in the order of their values, and those of any
+// The nearest thousandth, halves to even. The bits of doubles from 0 up are in the order of their values, and those of any
 // other are above them.
 fn thousandths(double: u64, limit: f64) -> Result<u64, Ground> {
     if double > limit.to_bits() {
@@ -46,7 +46,11 @@ fn thousandths(double: u64, limit: f64) -> Result<u64, Ground> {
         return Ok(0);
     }
     let significand = LEADING | double & (LEADING - 1);
-    Ok(((2000 * significand >> places) + 1) / 2)
+    let product = 1000 * significand;
+    let quotient = product >> places;
+    let remainder = product & ((1 << places) - 1);
+    // At the half an odd quotient is rounded up.
+    Ok(quotient + u64::from(2 * remainder + (quotient & 1) > 1 << places))
 }
 
 fn convert(cell: Cell, limit: f64) -> Result<u64, Ground> {
@@ -60,7 +64,8 @@ fn convert(cell: Cell, limit: f64) -> Result<u64, Ground> {
             if second & !SIGN < first & !SIGN {
                 return Err(EXCHANGED);
             }
-            Ok((low + high + 1) / 2)
+            let quotient = (low + high) / 2;
+            Ok(quotient + (low + high & quotient & 1))
         }
     }
 }

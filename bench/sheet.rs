@@ -277,8 +277,12 @@ impl Book {
             return Err(LIST_FULL);
         }
         let flown = if adjust == 1 { distance + AIR_DEFAULT } else { distance };
-        let shares = intensities
-            .map(|intensity| (u128::from(intensity) * u128::from(mass) * u128::from(flown) + 500) / 1000);
+        // Nearest; at the half an odd quotient is rounded up.
+        let shares = intensities.map(|intensity| {
+            let product = u128::from(intensity) * u128::from(mass) * u128::from(flown);
+            let quotient = product / 1000;
+            quotient + u128::from(2 * (product % 1000) + (quotient & 1) > 1000)
+        });
         let activity = mass * distance;
         let emissions = self.emissions_with(shares)?;
         self.activity = self.activity_with(activity)?;

@@ -1,6 +1,7 @@
 // The dividing rule (document 01): a pool goes to weights by floors, and the units left over go one
 // each to the largest remainders, equal remainders to the earlier place.
 mod floors;
+mod nearest;
 mod refusing;
 mod units;
 
@@ -11,6 +12,7 @@ ghost use Rattle.apportion.specs.Places.{sumOf, listBelow};
 ghost use Rattle.apportion.specs.Dividing.{mostTotal, refusal, remainderAt, divided, sharesAfter};
 ghost use Rattle.apportion.specs.Inner.Products.{Accepted};
 use floors::set_floors;
+pub use nearest::added_by_rounding;
 pub use refusing::first_of;
 use units::add_units;
 use units::unit_bound;

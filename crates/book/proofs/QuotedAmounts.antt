@@ -1,21 +1,33 @@
 -- The amounts of a quote. Assumes nothing.
 use mathlib.Core.Bool.{Bool, cond, true, false, _&&_}
-use mathlib.Core.Path.{ap, _≡_, sym}
+use mathlib.Core.Path.{ap, _≡_, _∙_, sym}
 use Prim.Native.Nat.{ℕ, _*_, _/_, _+_, _%_, _≤_}
 use native.Mathlib.Nat.{div-add-mod'}
 use native.Mathlib.Omega.{arith}
 use lib.Dec.{eqb}
-use Rattle.apportion.specs.Fractions.{nearest}
+use Rattle.apportion.specs.Fractions.{nearest, addedByRounding}
+use Rattle.book_words.specs.Inner.Steps.{capped}
 use Rattle.book_words.specs.Measures.{isMass, isDistance, isIntensity}
 use Rattle.book.specs.declared.arguments.QuoteArguments.{QuoteArguments}
 use Rattle.book.specs.Calls.{adjusted, quoteInRange}
 use Rattle.book_words.proofs.Booleans.{both}
+use Rattle.book_words.proofs.CappedSums.{capped-add, capped-rounded}
 
--- a quote's amount by the thousands of its activity and what is left of it
-pub thousands-apart : (i a : ℕ) → i * (a / 1000) + (i * (a % 1000) + 500) / 1000 ≡ nearest (i * a) 1000
+-- a product by the thousands of its second factor and what is left of it
+thousands-apart : (i a : ℕ) → (i * (a / 1000) + i * (a % 1000) / 1000) * 1000 + i * (a % 1000) % 1000 ≡ i * a
 thousands-apart i a =
     let whole : i * a ≡ i * (a / 1000 * 1000 + a % 1000) = sym (ap (λ (n : ℕ). i * n) (div-add-mod' a 1000)) in
     omega arith
+
+-- a quote's amount by these, each step capped
+pub amount-rounded : (i a : ℕ) {whole quotient unit amount : ℕ} → whole ≡ capped (i * (a / 1000))
+    → quotient ≡ capped (whole + i * (a % 1000) / 1000) → unit ≡ addedByRounding quotient (i * (a % 1000) % 1000) 1000
+    → amount ≡ capped (quotient + unit) → amount ≡ capped (nearest (i * a) 1000)
+amount-rounded i a w q u e =
+    let exact = i * (a / 1000) + i * (a % 1000) / 1000 in
+    e
+    ∙ rw (u, q, w, capped-add (i * (a / 1000)) (i * (a % 1000) / 1000))
+    (capped-rounded exact (i * (a % 1000) % 1000) 1000 (omega arith) ∙ ap (λ (n : ℕ). capped (nearest n 1000)) (thousands-apart i a))
 
 pub adjusted-most : (q : QuoteArguments) → q .distance ≤ 40_000_000 → adjusted q ≤ 40_095_000
 adjusted-most q h = go (eqb (q .adjust) 1)

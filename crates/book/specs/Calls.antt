@@ -183,7 +183,7 @@ abbrev pub quotedIntensity : Side → QuoteArguments → ℕ
 quotedIntensity operation q = q .«operation_intensity»
 quotedIntensity provision q = q .«provision_intensity»
 
--- "shares (intensity × mass × D / 1000), nearest, halves up"
+-- "shares (intensity × mass × D / 1000), nearest"; halves by document 02's "Quotes, intensities and workbook cells follow from now on"
 unfoldable pub quotedAmount : Side → QuoteArguments → ℕ
 quotedAmount side q = nearest (quotedIntensity side q * q .mass * adjusted q) 1000
 

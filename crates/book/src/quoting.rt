@@ -16,6 +16,7 @@ use crate::arguments::QuoteArguments;
 use crate::replies;
 use crate::replies::Counted;
 use crate::replies::Reply;
+use apportion::added_by_rounding;
 use apportion::first_of;
 use book_words::Element;
 use book_words::Sums;
@@ -91,15 +92,16 @@ fn quoted(q: QuoteArguments) -> Element
     }
 }
 
-// Intensity × product / 1000, nearest, halves up, capped; the product is mass × D. With the intensity it passes 64
+// Intensity × product / 1000, nearest, halves to even, capped; the product is mass × D. With the intensity it passes 64
 // bits, so its thousands are multiplied apart from what is left of it.
 fn nearest_thousandth(intensity: u64, product: u64) -> u64
     requires { ⌜ isIntensity intensity ≡ true ⌝ }
     ensures { λ r. ⌜ r ≡ capped (nearest (intensity * product) 1000) ⌝ }
 {
     let whole = book_words::multiply(intensity, product / 1000);
-    let rest = (intensity * (product % 1000) + 500) / 1000;
-    book_words::add(whole, rest)
+    let rest = intensity * (product % 1000);
+    let quotient = book_words::add(whole, rest / 1000);
+    book_words::add(quotient, added_by_rounding(quotient, rest % 1000, 1000))
 }
 
 // D: the distance, with adjust 1 plus the air default.

@@ -1,34 +1,12 @@
 -- A quotient that is made ten by ten. Assumes nothing.
-use mathlib.Core.Logic.{⊎-elim}
 use mathlib.Core.Path.{_≡_, _∙_, ap, refl}
-use Prim.Native.Nat.{ℕ, _<_, _*_, _+_, _/_, _%_, _≤_, _-_, _^_, zero, suc}
-use native.Mathlib.Nat.{mul-add-div-right, div-eq-of-lt, add-zero, div-add-mod', mod-lt, pow-suc}
+use Prim.Native.Nat.{ℕ, _<_, _*_, _+_, _/_, _%_, _-_, _^_, zero, suc}
+use native.Mathlib.Nat.{add-zero, div-add-mod', mod-lt, pow-suc}
 use native.Mathlib.Numerals.{sub-one}
 use native.Mathlib.Omega.{arith}
-use Rattle.apportion.specs.Fractions.{nearest}
+use Rattle.apportion.specs.Fractions.{nearest, addedByRounding}
 use Rattle.book_words.specs.Inner.Steps.{capped}
-use Rattle.apportion.proofs.Sums.{below-or-not}
-use Rattle.book_words.proofs.CappedSums.{capped-times, capped-add}
-
--- a number by its quotient and its remainder
-div-of : (q r t : ℕ) → r < t → (q * t + r) / t ≡ q
-div-of q r t h =
-    let some : 0 < t = omega arith in
-    mul-add-div-right some q r ∙ rw (div-eq-of-lt h) (add-zero q)
-
--- a quotient and twice its remainder, rounded down, is the quotient rounded to nearest, halves up
-pub halves-up : (q r t : ℕ) → r < t → q + 2 * r / t ≡ nearest (q * t + r) t
-halves-up q r t h =
-    ⊎-elim
-    (λ (l : 2 * r < t).
-    let whole : 2 * (q * t + r) + t ≡ q * (2 * t) + (2 * r + t) = omega arith in
-    rw (div-eq-of-lt l, whole, div-of q (2 * r + t) (2 * t) (omega arith)) (add-zero q))
-    (λ (g : t ≤ 2 * r).
-    let twice : 2 * r ≡ 1 * t + (2 * r - t) = omega arith in
-    let whole : 2 * (q * t + r) + t ≡ (q + 1) * (2 * t) + (2 * r - t) = omega arith in
-    let one : 2 * r / t ≡ 1 = ap (λ (n : ℕ). n / t) twice ∙ div-of 1 (2 * r - t) t (omega arith) in
-    rw (one, whole, div-of (q + 1) (2 * r - t) (2 * t) (omega arith)))
-    (below-or-not (2 * r) t)
+use Rattle.book_words.proofs.CappedSums.{capped-times, capped-add, capped-rounded}
 
 -- so far `shifted`, the amount with some of its tens, is divided; `left` tens are still to come
 pub record Shifting (amount tens total whole rest left : ℕ) : Type 0 where
@@ -69,9 +47,9 @@ shifting-next {amount} {tens} {total} {whole} {rest} {left} {more} {next} s some
     again (suc left) h p = let tenth : 10 ^ suc left ≡ 10 ^ left * 10 = pow-suc 10 left in
         rw sub-one (omega (arith, p, ap (λ (n : ℕ). s .shifted * n) tenth))
 
-pub shifting-done : {amount tens total whole rest left last : ℕ} → Shifting amount tens total whole rest left → left ≡ 0
-    → last ≡ capped (whole + 2 * rest / total) → last ≡ capped (nearest (amount * 10 ^ tens) total)
-shifting-done {amount} {tens} {total} {whole} {rest} {left} {last} s end e =
+pub shifting-done : {amount tens total whole rest left unit last : ℕ} → Shifting amount tens total whole rest left → left ≡ 0
+    → unit ≡ addedByRounding whole rest total → last ≡ capped (whole + unit) → last ≡ capped (nearest (amount * 10 ^ tens) total)
+shifting-done {amount} {tens} {total} {whole} {rest} {left} {unit} {last} s end u e =
     let one : s .shifted * 10 ^ 0 ≡ amount * 10 ^ tens = rw end at (s .is) in
     let all : s .exact * total + rest ≡ amount * 10 ^ tens = omega (arith, s .parts, one) in
-    e ∙ rw (s .whole-is, capped-add (s .exact) (2 * rest / total), halves-up (s .exact) rest total (s .less), all)
+    e ∙ rw (u, s .whole-is, capped-rounded (s .exact) rest total (s .less), all)

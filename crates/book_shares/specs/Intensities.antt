@@ -40,7 +40,8 @@ abbrev pub passengerIntensity : List ℕ → ℕ → Side → ℕ
 passengerIntensity ws category side =
     nearest (passengerPart ws category side * 100) (activityAmong ws category Passengers)
 
--- "each quotient below is rounded to nearest, halves up, and then added"
+-- "each quotient below is rounded to nearest, .. and then added"; halves by document 02's "Quotes, intensities and workbook cells follow
+-- from now on"
 unfoldable pub intensityOf : List ℕ → ℕ → ℕ → Side → ℕ
 intensityOf ws category code side =
     cond (eqb code 100)

@@ -15,6 +15,7 @@ use crate::pools;
 use crate::sharing;
 use crate::weights;
 use crate::weights::Recipients;
+use apportion::added_by_rounding;
 use apportion::first_of;
 use book_words::Side;
 
@@ -126,7 +127,7 @@ fn result(book: &[u64], category: u64, code: u64, members: &[usize], side: Side)
     )
 }
 
-// An amount × 10^tens by the activity of the elements that it goes to, nearest, halves up, capped.
+// An amount × 10^tens by the activity of the elements that it goes to, nearest, halves to even, capped.
 fn per_activity(
     book: &[u64],
     members: &[usize],
@@ -153,7 +154,7 @@ fn scale_tens(kind: u64) -> u64
     3
 }
 
-// Amount × 10^tens / total, nearest, halves up, capped. The product passes 64 bits, so the quotient is made
+// Amount × 10^tens / total, nearest, halves to even, capped. The product passes 64 bits, so the quotient is made
 // ten by ten.
 fn quotient(amount: u64, tens: u64, total: u64) -> u64
     requires { ⌜ (0 < total) × (total ≤ mostExact) ⌝ }
@@ -169,5 +170,5 @@ fn quotient(amount: u64, tens: u64, total: u64) -> u64
         rest %= total;
         left -= 1;
     }
-    book_words::add(whole, 2 * rest / total)
+    book_words::add(whole, added_by_rounding(whole, rest, total))
 }

@@ -1,4 +1,5 @@
--- Capped sums and products: they decide a comparison with a limit of at most 10^18 as the sums and products do. Assumes nothing.
+-- Capped sums, products and rounded quotients: they decide a comparison with a limit of at most 10^18 as those that are not capped do.
+-- Assumes nothing.
 use mathlib.Core.Bool.{Bool, true, false, _&&_}
 use mathlib.Core.Logic.{⊎-elim}
 use mathlib.Core.Path.{ap, _≡_, _∙_, sym}
@@ -10,6 +11,8 @@ use borrow.Author.Tests.{lt-ltb, leb-true, lt-leb, ne-eqb}
 use Rattle.book_words.specs.declared.totals.Sums.{Sums}
 use Rattle.book_words.specs.Totals.{mostEmissions, mostActivity, withinLimits}
 use Rattle.book_words.specs.Inner.Steps.{mostExact, capped, capSums}
+use Rattle.apportion.specs.Fractions.{nearest, addedByRounding}
+use Rattle.apportion.proofs.Rounding.{rounded}
 use Rattle.apportion.proofs.Sums.{below-or-not}
 use Rattle.book_words.proofs.Booleans.{both}
 
@@ -33,6 +36,14 @@ capped-times a (suc b) =
     let more : a * 1 ≤ a * suc b = mul-le-mul-left a (omega arith) in
     rw e (omega (arith, more)))
     (below-or-not a (suc mostExact))
+
+-- a capped quotient, rounded
+pub capped-rounded : (q r d : ℕ) → r < d → capped (capped q + addedByRounding (capped q) r d) ≡ capped (nearest (q * d + r) d)
+capped-rounded q r d h =
+    ⊎-elim
+    (λ (l : q < suc mostExact). rw (capped-small q (omega arith), rounded q r d h))
+    (λ (g : suc mostExact ≤ q). omega (arith, rounded q r d h))
+    (below-or-not q (suc mostExact))
 
 -- a product by the quotient of its limit
 pub product-over : (a b : ℕ) → 0 < b → mostExact / b < a → mostExact < a * b

@@ -5,7 +5,7 @@ pub mod Booleans
 pub mod EveryPlace
 -- soundness taken apart into its tests
 pub mod SoundTests
--- capped sums and products, which decide a comparison with a limit as the sums and products do
+-- capped sums, products and rounded quotients, which decide a comparison with a limit as those that are not capped do
 pub mod CappedSums
 -- ranges and tests as numbers, above all those of ground 7
 pub mod Ranges

@@ -7,6 +7,7 @@ use lib.Dec.{eqb}
 use lib.Ieee.{lt}
 use borrow.Author.Tests.{eqb-true}
 use Rattle.apportion.specs.Dividing.{refusal, sharesAfter, divided, floorAt, remainderAt, leftOver, before, rank, unitFor, unitAt, shareAt}
+use Rattle.apportion.specs.Fractions.{nearest, addedByRounding}
 use Rattle.apportion.specs.Places.{sumOf}
 use Rattle.workbook.specs.Doubles.{isRefused}
 use Rattle.workbook.specs.Lines.{lineRefusal}
@@ -73,7 +74,7 @@ every-row (r ∷ rs) e = each (test r) (testRows rs) (holds r) (every-row rs) e
 
 -- Every starred case holds: the test of the table computes to true.
 pub starred-hold : EveryRow starred
-unfolding refusal sharesAfter divided floorAt remainderAt leftOver before rank unitFor unitAt shareAt sumOf cleared freshRefusal freshBook
+unfolding nearest addedByRounding refusal sharesAfter divided floorAt remainderAt leftOver before rank unitFor unitAt shareAt sumOf cleared freshRefusal freshBook
     addCategory addEntry addElement activityOf standardActivity headerFine categoryFine entrySuits entryFine measured quotedSuits
     elementSuits elementFine passengerBelow mixes sumsFine sharesFine categoriesFine entriesFine elementsFine passengersFine closingsFine
     sound allUnstruck unstruckOf

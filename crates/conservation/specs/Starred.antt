@@ -112,7 +112,7 @@ quoteCall adjust mass distance operationIntensity provisionIntensity =
       «provision_intensity» = provisionIntensity;
     })
 
--- Document 01's numbers are those of operation. Where the factors or the intensities of provision are others, its shares are reckoned
+-- The papers' numbers are those of operation. Where the factors or the intensities of provision are others, its shares are reckoned
 -- by hand beside the row.
 abbrev pub starred : List Row
 starred =
@@ -144,7 +144,7 @@ starred =
     (2 ∷ 11 ∷ [])
     (4 ∷ 17 ∷ [])
     -- For request (iii); document 02 has no example. 12.5 units, 3.125 to 3.375 grams and 0.0625 grams per unit: the quantity is 12,500,
-    -- the span's ends become 3,125 and 3,375 mg and their mean is 3,250, and 62.5 becomes 63 mg. A line with a blank cell and one whose
+    -- the span's ends become 3,125 and 3,375 mg and their mean is 3,250, and 62.5 becomes 62 mg. A line with a blank cell and one whose
     -- span is exchanged are refused and add nothing.
     ∷ row
     (callsMade
@@ -156,10 +156,11 @@ starred =
     ∷ Close 1
     ∷ []))
     (40_625_000 ∷ [])
-    (787_500 ∷ [])
-    -- "*Quote 1, 500 kg, 1 m: 1."
-    -- Provision: intensity 5 is 2.5, halves up
-    ∷ row (callsMade (quoteCall 0 500 1 1 5 ∷ [])) (1 ∷ []) (3 ∷ [])
+    (775_000 ∷ [])
+    -- "*Quote 1, 500 kg, 1 m: 1." before request (vi), by which "The starred quote of half a microgram becomes 0, and 1.5 stays 2."
+    -- Provision: intensity 5 is 2.5 and becomes 2; for 1,500 kg intensity 3 is 4.5 and becomes 4
+    ∷ row (callsMade (quoteCall 0 500 1 1 5 ∷ [])) (0 ∷ []) (2 ∷ [])
+    ∷ row (callsMade (quoteCall 0 1500 1 1 3 ∷ [])) (2 ∷ []) (4 ∷ [])
     -- "*Quote 600000, adjust 1, 1000 kg, 905,000 m: 600,000,000,000."
     -- Provision: the same intensity
     ∷ row (callsMade (quoteCall 1 1000 905_000 600_000 600_000 ∷ [])) (600_000_000_000 ∷ []) (600_000_000_000 ∷ [])

@@ -1,7 +1,8 @@
 -- The laws of conversion. Assumes nothing.
 use mathlib.Core.Bool.{Bool, true, false, cond, not, _||_}
-use mathlib.Core.Path.{_≡_, _∙_, refl}
+use mathlib.Core.Path.{_≡_, _∙_, ap, refl, sym}
 use Prim.Native.Nat.{ℕ, _+_, _*_, _≤_, _<_}
+use native.Mathlib.Nat.{mul-one}
 use native.Mathlib.Omega.{arith}
 use borrow.Author.Tests.{ltb-false, le-ltb}
 use lib.IntN.{pos}
@@ -9,10 +10,10 @@ use lib.Ieee.{Float, nan, inf, fin, lt, binary64, ofInt}
 use lib.Ieee.Back.{round-whole}
 use lib.Ieee.Exact.{HasValue}
 use lib.Ieee.Fits.{down-pos}
-use Rattle.apportion.specs.Fractions.{over}
-use Rattle.apportion.specs.Nearness.{WithinHalf}
+use Rattle.apportion.specs.Fractions.{nearest, over}
+use Rattle.apportion.specs.Nearness.{WithinHalf, EvenAtHalf}
 use Rattle.apportion.proofs.Grounds.{or-none}
-use Rattle.apportion.proofs.Rounding.{nearest-near, nearest-most}
+use Rattle.apportion.proofs.Rounding.{nearest-near, nearest-even, nearest-most, nearest-exact}
 use Rattle.workbook.specs.declared.cells.Cell.{Cell}
 use Rattle.workbook.specs.declared.cells.Cell.the-variants.{Blank, Number, Span}
 use Rattle.workbook.specs.declared.lines.Line.{Line}
@@ -35,6 +36,13 @@ double-near x = nearest-near (1000 * exact x .numerator) (exact x .denominator) 
 
 pub mean-near : (a b : ℕ) → WithinHalf (mean a b) (a + b) 2
 mean-near a b = nearest-near (a + b) 2 (omega arith)
+
+-- Where the one is a whole number of thousandths and a half, or the other is, the even one is taken.
+pub double-even : (x : Float) → EvenAtHalf (thousandths (exact x)) (1000 * exact x .numerator) (exact x .denominator)
+double-even x = nearest-even (1000 * exact x .numerator) (exact x .denominator) (some-denominator x)
+
+pub mean-even : (a b : ℕ) → EvenAtHalf (mean a b) (a + b) 2
+mean-even a b = nearest-even (a + b) 2 (omega arith)
 
 -- A double that is not refused is within its limit, and so are its thousandths.
 within-limit : (limit : ℕ) (x : Float) → isRefused limit x ≡ false → thousandths (exact x) ≤ 1000 * limit
@@ -81,7 +89,7 @@ whole-converted limit k x v h =
     (rw (value-refused limit false k 1 (omega arith) x v, le-ltb (limit * 1) k (omega arith)), value-thousandths limit false k 1 (omega arith) x v ∙ whole)
   where
     whole : thousandths (over k 1) ≡ 1000 * k
-    whole = omega arith
+    whole = ap (λ (n : ℕ). nearest n 1) (sym (mul-one (1000 * k))) ∙ nearest-exact (1000 * k) 1 (omega arith)
 
 -- and every whole number up to 10^9 is such a double.
 pub whole-double : (k : ℕ) → k ≤ quantityLimit → HasValue (ofInt binary64 (pos k)) false k 1

@@ -1,6 +1,6 @@
--- "A double becomes the nearest whole thousandth of its exact binary value, halves up." A double is the library's: `nan`, `inf s`, or
--- `fin s m e`, the number m × 2^e, below zero where s is true and m is not 0. All that is worked out here is worked out in whole numbers.
--- Assumes nothing.
+-- "A double becomes the nearest whole thousandth of its exact binary value", of two equally near the even one (document 02, (vi)). A double
+-- is the library's: `nan`, `inf s`, or `fin s m e`, the number m × 2^e, below zero where s is true and m is not 0. All that is worked out
+-- here is worked out in whole numbers. Assumes nothing.
 use mathlib.Core.Bool.{Bool, true, false, not, _&&_, _||_}
 use Prim.Native.Nat.{ℕ, _*_}
 use lib.Dec.{ltb}
@@ -13,7 +13,7 @@ exact nan = over 0 1
 exact (inf s) = over 0 1
 exact (fin s m e) = over (m * up e) (down e)
 
--- the nearest whole thousandth of a fraction, halves up
+-- the nearest whole thousandth of a fraction
 abbrev pub thousandths : Fraction → ℕ
 thousandths x = nearest (1000 * x .numerator) (x .denominator)
 

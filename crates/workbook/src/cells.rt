@@ -5,6 +5,7 @@ ghost use Rattle.workbook.specs.declared.cells.Cell.the-variants.{Span};
 ghost use Rattle.workbook.specs.Cells.{cellRefusal, cellValue, mean};
 ghost use Rattle.workbook.specs.Inner.Steps.{conversionOf, refusalOf, valueOf};
 use crate::doubles;
+use apportion::added_by_rounding;
 
 pub enum Cell {
     Blank,
@@ -57,11 +58,13 @@ fn convert_span(span: Ends, limit: u32) -> Conversion
     Conversion::Value(mean(low, high))
 }
 
-// (a + b) / 2, nearest, halves up.
+// (a + b) / 2, nearest, halves to even.
 fn mean(a: u64, b: u64) -> u64
     ensures { λ r. ⌜ r ≡ mean a b ⌝ }
 {
-    a / 2 + b / 2 + (a % 2 + b % 2 + 1) / 2
+    let rest = a % 2 + b % 2;
+    let quotient = a / 2 + b / 2 + rest / 2;
+    quotient + added_by_rounding(quotient, rest % 2, 2)
 }
 
 // The refusal number of a conversion, and its value.

@@ -2,10 +2,11 @@
 ghost use mathlib.Core.Path.{_≡_};
 ghost use Prim.Native.Nat.{_<_, _/_, _^_};
 ghost use lib.Ieee.{binary64, ofBits};
-ghost use Rattle.apportion.specs.Fractions.{over};
+ghost use Rattle.apportion.specs.Fractions.{nearest, over};
 ghost use Rattle.workbook.specs.declared.cells.Cell.the-variants.{Number};
 ghost use Rattle.workbook.specs.Inner.Steps.{conversionOf, fractionConversion};
 use crate::cells::Conversion;
+use apportion::added_by_rounding;
 
 // The weights of the sign and of the leading digit in the bits of a double.
 const SIGN: u64 = 9_223_372_036_854_775_808;
@@ -41,8 +42,7 @@ fn convert_bits(bits: u64, limit: u32) -> Conversion
     convert_fraction(LEADING + digits, 1075 - field, limit)
 }
 
-// The same of a fraction, digits / 2^places. It is above the limit exactly where (digits - 1) / 2^places, rounded down, reaches it. Its
-// thousandths are half of (2000 × digits / 2^places, rounded down, and 1); the product fits in 64 bits.
+// The same of a fraction, digits / 2^places. It is above the limit exactly where (digits - 1) / 2^places, rounded down, reaches it.
 fn convert_fraction(digits: u64, places: u64, limit: u32) -> Conversion
     requires { ⌜ digits < 2 ^ 53 ⌝ }
     ensures { λ r. ⌜ r ≡ fractionConversion limit (over digits (2 ^ places)) ⌝ }
@@ -52,7 +52,20 @@ fn convert_fraction(digits: u64, places: u64, limit: u32) -> Conversion
             return Conversion::Refused(15);
         }
     }
-    Conversion::Value((shifted(2000 * digits, places) + 1) / 2)
+    Conversion::Value(nearest_shifted(1000 * digits, places))
+}
+
+// n / 2^places, nearest, halves to even. With more than 63 places it is below a half.
+fn nearest_shifted(n: u64, places: u64) -> u64
+    requires { ⌜ n < 2 ^ 63 ⌝ }
+    ensures { λ r. ⌜ r ≡ nearest n (2 ^ places) ⌝ }
+{
+    if places > 63 {
+        return 0;
+    }
+    let divisor = 1 << places;
+    let quotient = n / divisor;
+    quotient + added_by_rounding(quotient, n % divisor, divisor)
 }
 
 // n / 2^places, rounded down.

@@ -8,8 +8,7 @@ use native.Mathlib.Omega.{arith}
 use borrow.Author.Needs.{needs}
 use borrow.Author.Tests.{leb-true}
 use Rattle.book_words.specs.Measures.{isIntensity}
-use Rattle.book_words.proofs.CappedSums.{capped-add}
-use Rattle.book.proofs.QuotedAmounts.{thousands-apart}
+use Rattle.book.proofs.QuotedAmounts.{amount-rounded}
 use Rattle.book.proofs.quoting.nearest_thousandth.Statement.{statement}
 use Rattle.book.proofs.quoting.nearest_thousandth.Tie as tie
 
@@ -25,15 +24,27 @@ multiply-requires c κs = search needs
 mul-rest : tie.Need-mul-rest
 mul-rest c = omega (arith, rest-small (c .before .args .intensity) (c .before .args .product) (c .before .pre))
 
-add-rest : tie.Need-add-rest
-add-rest c = omega (arith, rest-small (c .before .args .intensity) (c .before .args .product) (c .before .pre))
-
 add-requires : tie.Need-add-requires
 add-requires c κs = search needs
 
+added-by-rounding-requires : tie.Need-added-by-rounding-requires
+added-by-rounding-requires c κs = search needs
+
+add-requires-2 : tie.Need-add-requires-2
+add-requires-2 c κs = search needs
+
 returns : tie.Need-returns
-returns c = rw (c .add .ensures, c .before .multiply .ensures, capped-add, thousands-apart)
+returns c =
+    let unit = c .before in
+    let quotient = unit .before in
+    let whole = quotient .before in
+    amount-rounded (whole .before .args .intensity) (whole .before .args .product)
+    (whole .multiply .ensures)
+    (quotient .add .ensures)
+    (unit .added-by-rounding .ensures .0)
+    (c .add2 .ensures)
 
 pub nearest-thousandth-spec : {M : Type 1} → statement M
 nearest-thousandth-spec =
-    tie.close (tie.spec multiply-requires mul-rest add-rest add-requires returns)
+    tie.close
+    (tie.spec multiply-requires mul-rest add-requires added-by-rounding-requires add-requires-2 returns)

@@ -51,17 +51,16 @@ loop-again c =
     shifting-next (turn .before .loop .inv) (turn .before .before .before .pre .0) (turn .loop-test .taken) (c .before .multiply .ensures)
     (c .add2 .ensures)
 
-mul-add : tie.Need-mul-add Inv-loop μ-loop
-mul-add c = omega (arith, c .before .loop .inv .less, c .before .before .before .pre)
-
-div-add-3 : tie.Need-div-add-3 Inv-loop μ-loop
-div-add-3 c = search needs
+added-by-rounding-requires : tie.Need-added-by-rounding-requires Inv-loop μ-loop
+added-by-rounding-requires c κs = search needs
 
 add-requires-3 : tie.Need-add-requires-3 Inv-loop μ-loop
 add-requires-3 c κs = search needs
 
 returns : tie.Need-returns Inv-loop μ-loop
-returns c = shifting-done (c .before .before .loop .inv) (omega arith) (c .add3 .ensures)
+returns c =
+    let done = c .before .before in
+    shifting-done (done .before .loop .inv) (omega arith) (c .before .added-by-rounding .ensures .0) (c .add3 .ensures)
 
 pub quotient-spec : {M : Type 1} → statement M
 quotient-spec =
@@ -81,7 +80,6 @@ quotient-spec =
     sub-left
     loop-less
     loop-again
-    mul-add
-    div-add-3
+    added-by-rounding-requires
     add-requires-3
     returns)

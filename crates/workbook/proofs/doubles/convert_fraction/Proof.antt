@@ -1,10 +1,10 @@
 -- `workbook::doubles::convert_fraction` meets its contract. Assumes nothing.
 use mathlib.Core.Logic.{⊎-elim, inl, inr}
-use Prim.Native.Nat.{_*_, _^_}
+use Prim.Native.Nat.{_^_}
 use native.Mathlib.Omega.{arith}
-use lib.Pow.{pow-pos, shr-le}
+use lib.Pow.{pow-pos}
 use borrow.Author.Needs.{needs}
-use Rattle.workbook.proofs.ShiftedDigits.{fraction-refused, fraction-converted}
+use Rattle.workbook.proofs.FractionLimit.{fraction-refused, fraction-converted}
 use Rattle.workbook.proofs.doubles.convert_fraction.Statement.{statement}
 use Rattle.workbook.proofs.doubles.convert_fraction.Tie as tie
 
@@ -20,21 +20,16 @@ returns c =
     fraction-refused (a .limit) (a .digits) (2 ^ a .places) (pow-pos (a .places)) (c .before .before .if1 .taken)
     (rw (← c .before .shifted .ensures) (c .if2 .taken))
 
-mul-shifted : tie.Need-mul-shifted
-mul-shifted c = search needs
+mul-nearest-shifted : tie.Need-mul-nearest-shifted
+mul-nearest-shifted c = search needs
 
-shifted-requires-2 : tie.Need-shifted-requires-2
-shifted-requires-2 c κs = search needs
-
-add-t11 : tie.Need-add-t11
-add-t11 c =
-    let a = c .before .before .args in
-    omega (arith, c .shifted2 .ensures, shr-le (2000 * a .digits) (a .places))
+nearest-shifted-requires : tie.Need-nearest-shifted-requires
+nearest-shifted-requires c κs = search needs
 
 returns-2 : tie.Need-returns-2
 returns-2 c =
     let a = c .before .before .args in
-    rw (c .shifted2 .ensures)
+    rw (c .nearest-shifted .ensures)
     (fraction-converted (a .limit) (a .digits) (2 ^ a .places) (pow-pos (a .places))
     (⊎-elim (λ w. inr (rw (← w .1 .ensures) (w .2 .left))) (λ w. inl (omega arith)) (c .before .if1 .came)))
 
@@ -45,7 +40,6 @@ convert-fraction-spec =
     sub-shifted
     shifted-requires
     returns
-    mul-shifted
-    shifted-requires-2
-    add-t11
+    mul-nearest-shifted
+    nearest-shifted-requires
     returns-2)
