@@ -352,9 +352,17 @@ def quotes(check):
         "element 1 (line 1): quoted by its carrier, 500 kg over 1 m",
         "activity: 500 kg × 1 m = 500 D is the distance, 1 m operation "
         "intensity × mass × D / 1000 = 1 × 500 × 1 / 1000 = 1/2 quotient 0, "
-        "remainder 500, half of 1000: halves are rounded up share: 1 µg",
+        "remainder 500, half of 1000: of 0 and 1, a half goes to the even "
+        "number, 0 share: 0 µg",
         "3 × 500 × 1 / 1000 = 1 1/2 quotient 1, remainder 500, half of 1000: "
-        "halves are rounded up share: 2 µg")
+        "of 1 and 2, a half goes to the even number, 2 share: 2 µg")
+    check_in_order(
+        check, board_of([quote(500, 1, 5, 1999)], 1),
+        "5 × 500 × 1 / 1000 = 2 1/2 quotient 2, remainder 500, half of 1000: "
+        "of 2 and 3, a half goes to the even number, 2 share: 2 µg",
+        "1_999 × 500 × 1 / 1000 = 999 1/2 quotient 999, remainder 500, half of "
+        "1000: of 999 and 1_000, a half goes to the even number, 1_000 share: "
+        "1_000 µg")
     for mass, why, share in (
             (499, "less than half of 1000: rounded down", 0),
             (501, "more than half of 1000: rounded up", 1)):
@@ -516,9 +524,10 @@ def wrong_shares(check):
              (second, -1)),
             (BOTH, "element 1 (line 3), provision share", 1, 0, (first + 1, 1),
              (second + 1, -1)),
-            (quoted, "element 1 (line 1), operation share", 2, 1, (first, 1)),
-            (quoted, "element 1 (line 1), provision share", 3, 2,
-             (first + 1, 1))):
+            # By halves up, and down.
+            (quoted, "element 1 (line 1), operation share", 1, 0, (first, 1)),
+            (quoted, "element 1 (line 1), provision share", 1, 2,
+             (first + 1, -1))):
         tells_difference(check, "%s: the program says %d, reckoned here it is "
                          "%d" % (what, wrong, right), changed, lines, *changes)
 

@@ -225,6 +225,19 @@ CALLS = (
       ENROL % (7, 0, 1, 1), "close 1"), "intensity 1 0", 10,
      "an intensity above 10^15 mg: operation would be "
      "1_000_000_000_000_000_000_000"),
+    # 10^15 + 1.5 of a hub in operation; its 10^15 + 0.5 in provision passes.
+    (("open hub", POST % (0, 10 ** 9, 2 * 10 ** 6, 2 * 10 ** 6),
+      POST % (0, 1, 3, 1), ENROL % (7, 0, 2, 0), "close 1"), "intensity 1 0",
+     10, "an intensity above 10^15 mg: operation would be "
+     "1_000_000_000_000_002\n"),
+    # 0.5 µg is none, 1.5 µg are two.
+    ((QUOTE % (1, 500, 1, 1, 0, 0), "open 1"),
+     POST % (0, 10 ** 12, 10 ** 6 + 1, 0), 10, "the quotes would add up to "
+     "1_000_001_000_000_000_000 µg; a quantity"),
+    (("open 1", POST % (0, 10 ** 12, 0, 10 ** 6)),
+     QUOTE % (1, 500, 1, 1, 3, 0), 10, "more than 10^18 µg in provision: the "
+     "unstruck entries and the quotes would add up to "
+     "1_000_000_000_000_000_002 µg; an intensity"),
     # 15 of a line's cells, which comes before all of a post's
     ((), LINE % ("-", 1, 1), 15, "    the quantity is blank" + UNITS),
     ((), LINE % (1, "-", 1), 15, "    the operation factor is blank" + GRAMS),
@@ -281,7 +294,7 @@ CALLS = (
      "too\n"),
     (("open 1", LINE % (0.0625, 1, 0)), LINE % ("1e9", "1e6..1e6", 1000), 10,
      "more than 10^18 µg in operation: the unstruck entries and the quotes "
-     "would add up to 1_000_000_000_000_000_063_000 µg; a quantity is in units, "
+     "would add up to 1_000_000_000_000_000_062_000 µg; a quantity is in units, "
      "a factor in g CO2e per unit\n"),
 )
 

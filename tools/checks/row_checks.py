@@ -41,7 +41,7 @@ def example(check):
         # What the example says of its rows.
         ("4", (625, 1_430_000_000, 0)), ("5", (5_500, 3_922_000_000, 0)),
         ("6", (1_788, 1_430_000_000, 0)), ("3", (6_400_000, 0, 41_300)),
-        ("11", (63, 2_510_000, 620_000)), ("12", (1_000, 2_510_000, 620_000)),
+        ("11", (62, 2_510_000, 620_000)), ("12", (1_000, 2_510_000, 620_000)),
     ):
         row = next(row for row in Rows(stored(
             "examples", "wharf-sheet.csv")).rows if row.number == int(sheet))
@@ -139,6 +139,31 @@ def forms(check):
               "most lines decide", text, output)
     # As they stand between `;`, and not between thousands.
     check("     3_206        " in posted("3,206;1;1")[1], "a decimal comma")
+
+
+def halves(check):
+    """They go to the even number, of numbers and of means, and where a number
+    only looks like one, its double decides."""
+    found = posted("0.0625,1,2\n1,0.1875,0.3125\n1,0.063..0.188,0.062..0.187\n"
+                   "0.0625..0.1875,0.0625..0.063,0.187..0.1875\n"
+                   "1.0005,0.5015,2.0005\n")
+    check(found == (0, """\
+line  entry  quantity  operation mg  provision mg    operation t   provision t
+   1      1        62         1_000         2_000  0.000000062    0.000000124
+   2      2     1_000           188           312  0.000000188    0.000000312
+   3      3     1_000           126           124  0.000000126    0.000000124
+   4      4       125            62           188  0.00000000775  0.0000000235
+   5      5     1_000           501         2_001  0.000000501    0.000002001
+line 5, operation factor: as a double 0.5015 is 0.501499999999999945821116..., \
+so it becomes 501 and not 502
+line 5, provision factor: as a double 2.0005 is 2.000500000000000166977542..., \
+so it becomes 2_001 and not 2_000
+5 rows: 5 posted as entries 1 to 5, none refused
+""", ""), "halves", found)
+    for cell, number in (("0.4375", 438), ("0.5625", 562), ("0..0.001", 0),
+                         ("0.001..0.002", 2), ("0.002..0.003", 2)):
+        row, = Rows("%s,0,0" % cell).rows
+        check(converted(row.cells[0]) == number, "a half", cell)
 
 
 def headings(check):
@@ -450,6 +475,7 @@ def run_all(check):
     example(check)
     as_entries(check)
     forms(check)
+    halves(check)
     headings(check)
     bad_rows(check)
     bad_files(check)

@@ -360,12 +360,12 @@ def stored_explanations():
 
 
 def board():
-    """The book for the blackboard has what document 01 reckons by hand, and
-    its first closing with heads of 50 kg."""
+    """The book for the blackboard has what document 01 reckons by hand, half a
+    microgram, and its first closing with heads of 50 kg."""
     *lines, last = run("sheet", BOARD)[1].splitlines()[1:]
     check([int(line.split()[3]) for line in lines]
-          == [3, 1, 5, 2, 11, 4, 3, 3, 1, 5, 1, 3], "reckoned by hand", lines)
-    check(last == "all 12 0 42 0 42", "their sum", last)
+          == [3, 1, 5, 2, 11, 4, 3, 3, 0, 5, 1, 3], "reckoned by hand", lines)
+    check(last == "all 12 0 41 0 41", "their sum", last)
 
 
 FERRY_TABLE = """\
@@ -484,6 +484,7 @@ LINE = "line category 1 group chilled "
 SEATS = ENROL.replace("code 1", "code lowest")
 QUOTE = ("quote adjust chain 7 mass 1_000 distance 5_000 operation 6 "
          "provision 1")
+HALVES = "quote chain 7 mass 500 distance 1 operation %d provision %d"
 
 
 def accepted_calls():
@@ -501,21 +502,60 @@ def accepted_calls():
          "operation factor 3.1..3.4 g CO2e per unit: its ends are 3_100 and "
          "3_400 mg, their mean is 3_250 mg\n    provision factor 0.56 g CO2e "
          "per unit: 560 mg"),
-        # Halves up, of a number, of the ends of a span and of their mean.
-        ("0.0625 0.0625..0.1875 0.001..0.002",
-         "operation 7_938 µg (0.000000007938 t), provision 126 µg "
-         "(0.000000000126 t)\n    quantity 0.0625 units: 63 thousandths\n    "
-         "operation factor 0.0625..0.1875 g CO2e per unit: its ends are 63 and "
-         "188 mg, their mean is 126 mg (125.5, halves up)\n    provision factor "
-         "0.001..0.002 g CO2e per unit: its ends are 1 and 2 mg, their mean is "
-         "2 mg (1.5, halves up)"),
-        # The double decides, and not what is written for it.
-        ("provision -0.0 quantity 1_000 operation 1.0005",
-         "operation 1_000_000_000 µg (0.001 t), provision 0 µg (0 t)\n    "
+        # Halves go to the even number: of a number, 62.5 and 187.5 ..
+        ("1 0.0625 0.1875",
+         "operation 62_000 µg (0.000000062 t), provision 188_000 µg "
+         "(0.000000188 t)\n    quantity 1 units: 1_000 thousandths\n    "
+         "operation factor 0.0625 g CO2e per unit: 62 mg (62.5, a half goes to "
+         "the even number)\n    provision factor 0.1875 g CO2e per unit: 188 mg "
+         "(187.5, a half goes to the even number)"),
+        # .. of the mean of a span, 125.5 and 124.5 ..
+        ("1 0.063..0.188 0.062..0.187",
+         "operation 126_000 µg (0.000000126 t), provision 124_000 µg "
+         "(0.000000124 t)\n    quantity 1 units: 1_000 thousandths\n    "
+         "operation factor 0.063..0.188 g CO2e per unit: its ends are 63 and "
+         "188 mg, their mean is 126 mg (125.5, a half goes to the even number)"
+         "\n    provision factor 0.062..0.187 g CO2e per unit: its ends are 62 "
+         "and 187 mg, their mean is 124 mg (124.5, a half goes to the even "
+         "number)"),
+        # .. and of its ends, before their mean: 62 and 188, 62 and 312, 62
+        # and 63.
+        ("0.0625..0.1875 0.0625..0.3125 0.0625..0.063",
+         "operation 23_375 µg (0.000000023375 t), provision 7_750 µg "
+         "(0.00000000775 t)\n    quantity 0.0625..0.1875 units: its ends are 62 "
+         "(62.5, a half goes to the even number) and 188 (187.5, a half goes to "
+         "the even number) thousandths, their mean is 125 thousandths\n    "
+         "operation factor 0.0625..0.3125 g CO2e per unit: its ends are 62 "
+         "(62.5, a half goes to the even number) and 312 (312.5, a half goes to "
+         "the even number) mg, their mean is 187 mg\n    provision factor "
+         "0.0625..0.063 g CO2e per unit: its ends are 62 (62.5, a half goes to "
+         "the even number) and 63 mg, their mean is 62 mg (62.5, a half goes to "
+         "the even number)"),
+        # The double decides, and not what is written for it: a little less
+        # than the half that would go up, and a little more than one that would
+        # go down.
+        ("provision -0.0 quantity 1_000 operation 0.5015",
+         "operation 501_000_000 µg (0.000501 t), provision 0 µg (0 t)\n    "
          "quantity 1000 units: 1_000_000 thousandths\n    operation factor "
-         "1.0005 g CO2e per unit: 1_000 mg\n        as a double 1.0005 is "
-         "1.000499999999999944932937..., so it becomes 1_000 and not 1_001\n    "
+         "0.5015 g CO2e per unit: 501 mg\n        as a double 0.5015 is "
+         "0.501499999999999945821116..., so it becomes 501 and not 502\n    "
          "provision factor -0 g CO2e per unit: 0 mg"),
+        ("1 2.0005 0.0005..0.5015",
+         "operation 2_001_000 µg (0.000002001 t), provision 251_000 µg "
+         "(0.000000251 t)\n    quantity 1 units: 1_000 thousandths\n    "
+         "operation factor 2.0005 g CO2e per unit: 2_001 mg\n        as a double "
+         "2.0005 is 2.000500000000000166977542..., so it becomes 2_001 and not "
+         "2_000\n    provision factor 0.0005..0.5015 g CO2e per unit: its ends "
+         "are 1 and 501 mg, their mean is 251 mg\n        as a double 0.0005 is "
+         "0.000500000000000000010408..., so it becomes 1 and not 0\n        as a "
+         "double 0.5015 is 0.501499999999999945821116..., so it becomes 501 and "
+         "not 502"),
+        # By both they go to the same number, 1.0005 down and 1.0015 up.
+        ("1 1.0005 1.0015",
+         "operation 1_000_000 µg (0.000001 t), provision 1_002_000 µg "
+         "(0.000001002 t)\n    quantity 1 units: 1_000 thousandths\n    "
+         "operation factor 1.0005 g CO2e per unit: 1_000 mg\n    provision "
+         "factor 1.0015 g CO2e per unit: 1_002 mg"),
     ):
         answered("open 1", LINE + cells, "entry 1: category 1, benefits chilled "
                  "freight; " + told)
@@ -553,6 +593,14 @@ def accepted_calls():
     answered(QUOTE.replace("adjust", ""), "element 1: quoted, chain 7, 1_000 "
              "kg over 5_000 m; operation 30_000 µg (0.00000003 t), provision "
              "5_000 µg (0.000000005 t)")
+    # 0.5 and 1.5, 2.5 and 3.5 µg.
+    for intensities, told in (
+        ((1, 3), "operation 0 µg (0 t), provision 2 µg (0.000000000002 t)"),
+        ((5, 7), "operation 2 µg (0.000000000002 t), provision 4 µg "
+                 "(0.000000000004 t)"),
+    ):
+        answered(HALVES % intensities, "element 1: quoted, chain 7, 500 kg over "
+                 "1 m; " + told)
     answered("open 1", POST, ENROL, "close category 1", "category 1: freight, "
              "closed\n    element 1: category 1, chain 7, chilled freight, 10 "
              "kg over 20 m; operation 3_000 µg (0.000000003 t), provision "
@@ -673,6 +721,39 @@ def looking():
     answered(*lines, "intensity 1 ambient", "category 1, ambient freight, per "
              "tonne-km:\n    operation 150 mg CO2e (0.15 g)\n    provision 100 "
              "mg CO2e (0.1 g)")
+
+
+def halves_of_intensities():
+    """Each quotient goes to the even number, and then they are added."""
+    post = "post category 1 group %s quantity 1 operation %d provision %d"
+    enrol = "enrol category 1 chain 7 code %s amount %d distance %d"
+
+    def told(kind, posts, elements, code, *amounts):
+        found = answers("open " + kind, *[post % words for words in posts],
+                        *[enrol % words for words in elements], "close 1",
+                        "intensity 1 " + code)[-1]
+        check([line.split()[1] for line in found[1:]]
+              == ["{:_}".format(amount) for amount in amounts], "halves", posts,
+              elements, code, found)
+
+    # By 2000 kg m: 0.5 and 1.5, 2.5 and 3.5; of a group the same once more.
+    chilled = [("chilled", 2000, 1)]
+    for amounts, *both in (((1, 3), 0, 2), ((5, 7), 2, 4)):
+        told("freight", [("all", *amounts)], chilled, "ambient", *both)
+        told("freight", [("all", *amounts), ("chilled", *amounts)], chilled,
+             "chilled", *[2 * number for number in both])
+    # In a hub by 2 kg, and of two heads × 100.
+    told("hub", [("all", 1, 3)], [("ambient", 2, 0)], "ambient", 0, 2)
+    told("hub", [("all", 5, 4)], [("ambient", 2, 0)], "ambient", 2, 2)
+    told("passengers", [("all", 1, 3)], [("lowest", 2, 1)], "lowest", 0, 2)
+    # Half above the limit of 10^15 is none.
+    limit = ("post category 1 group all quantity 1_000_000_000 operation "
+             "2_000_000 provision 0")
+    found = answers("open hub", limit, post % ("all", 1, 0),
+                    enrol % ("ambient", 2, 0), "close 1",
+                    "intensity 1 ambient")[-1]
+    check(found[1] == "    operation 1_000_000_000_000_000 mg CO2e "
+          "(1_000_000_000_000 g)", "half above the limit", found)
 
 
 def whole_sheets():
@@ -1016,8 +1097,9 @@ HELP_ON = {
 line: posts a line from the Wharf Sheet, the old workbook, to a category
     line category 1 group all quantity 12.5 operation 3.1..3.4 provision 0.56
     a cell is blank (`-`), a number, or a span with two points; it becomes \
-whole thousandths, the nearest to its double, halves up, and a span the mean \
-of its two; the cells may stand without their words, in this order
+whole thousandths, the nearest to its double, and a span the mean of its two; \
+a half goes to the even number; the cells may stand without their words, in \
+this order
     expected line with category, group, quantity, operation and provision
     category is a number, from 1 on in their order
     group is a number or a word: all (0), chilled (1) or frozen (2)
@@ -1066,6 +1148,8 @@ standard 100
     "quote": """\
 quote: quotes a leg of another carrier, in no category
     quote chain 7 mass 1_000 distance 500_000 operation 62_000 provision 10_000
+    its emissions are in whole µg: intensity × mass × distance / 1000, the \
+nearest, and a half goes to the even number
     expected quote with chain, mass, distance, operation and provision; it may \
 have adjust
     chain is a number from 1 to 10,000, also where `name` gives it a name
@@ -1080,7 +1164,7 @@ intensity: shows the intensity of a closed category, for ambient, chilled, \
 frozen or lowest (class)
     intensity 1 ambient
     it is in whole mg: what benefits all and what benefits the group are \
-rounded apart, halves up, and then added
+rounded apart, a half to the even number, and then added
     expected intensity with category and code
     category is a number, from 1 on in their order
     code is a number or a word: ambient (0), chilled (1), frozen (2) or lowest \
@@ -1379,13 +1463,28 @@ def differences_of_calls():
         (("open 1",), b"\n0 1\n", b"\n0\n", "`0` to `open 1`, and `0 1`"),
         (("open 1",), b"\n0 1\n", b"\n\n", "`` to `open 1`, and `0 1`"),
         (("open 9",), b"\n3 0\n", b"\n23 0\n", "`23 0` to `open 9`, and `3 0`"),
-        # A program that takes a blank cell for 0, and one that rounds a half
-        # down.
+        # A program that takes a blank cell for 0.
         (("open 1", LINE + "1 - 2..3"), b"\n15 0\n", b"\n0 1\n",
          "`0 1` to `line 1 1 1 - 2..3`, and `15 0` is reckoned here"),
-        (("open 1", LINE + "1 0.0625 0"), b" 1 1 63000 0 ", b" 1 1 62000 0 ",
-         "after `line 1 1 1 0.0625 0` replay shows 62000 in the book's entry 1, "
-         "operation, and 63000 is reckoned here"),
+        # Programs that round halves up, and down: of a cell, a mean, a quote
+        # and an intensity.
+        (("open 1", LINE + "1 0.0625 0"), b" 1 1 62000 0 ", b" 1 1 63000 0 ",
+         "after `line 1 1 1 0.0625 0` replay shows 63000 in the book's entry 1, "
+         "operation, and 62000 is reckoned here"),
+        (("open 1", LINE + "1 0.1875 0"), b" 1 1 188000 0 ", b" 1 1 187000 0 ",
+         "after `line 1 1 1 0.1875 0` replay shows 187000 in the book's entry "
+         "1, operation, and 188000 is reckoned here"),
+        (("open 1", LINE + "1 0 0.062..0.187"), b" 1 1 0 124000 ",
+         b" 1 1 0 125000 ", "replay shows 125000 in the book's entry 1, "
+         "provision, and 124000 is reckoned here"),
+        ((HALVES % (1, 3),), b" 500 1 500 0 2 ", b" 500 1 500 1 2 ", "replay "
+         "shows 1 in the book's element 1, operation, and 0 is reckoned here"),
+        ((HALVES % (1, 3),), b" 500 1 500 0 2 ", b" 500 1 500 0 1 ", "replay "
+         "shows 1 in the book's element 1, provision, and 2 is reckoned here"),
+        (("open 4", "post category 1 group 0 quantity 1 operation 1 provision 3",
+          "enrol category 1 chain 7 code 0 amount 2 distance 0", "close 1",
+          "intensity 1 0"), b"\n0 0 2\n", b"\n0 1 2\n", "replay answers `0 1 "
+         "2` to `intensity 1 0`, and `0 0 2` is reckoned here"),
         # What a program without weighed passengers answers.
         (("open 2", SEATS, SEATS + " kg 78"), b"\n14 0\n", b"\n0 2\n",
          "`0 2` to `enrol 1 7 100 10 20 78`, and `14 0` is reckoned here"),
@@ -1523,10 +1622,13 @@ def help_texts():
          "0.56", "strike 1 preview 1 close 1",
          "a list of calls; without it they are typed"),
         ("explain", "Shows how a chain's shares came about, element by element",
-         "Each result is compared with that of the proved program",
+         "how a quote was rounded, to the nearest µg and from a half to the "
+         "even number", "Each result is compared with that of the proved program",
          book_path, "a chain's number, or its name in the text"),
         ("lines", "Posts the rows of an old workbook (the Wharf Sheet) to a "
-         "category of a book, for a group",
+         "category of a book, for a group", "the nearest whole thousandth of "
+         "the exact value of its double, and a span the mean of its two; a half "
+         "goes to the even number",
          "usage: quay lines [-h] [--entries] BOOK.txt ROWS.csv CATEGORY GROUP",
          "a book's text, or a list of calls; - for standard input",
          "the rows of the workbook; - for standard input",
@@ -1605,6 +1707,7 @@ accepted_calls()
 previews()
 previews_and_closings()
 looking()
+halves_of_intensities()
 whole_sheets()
 saves()
 loads()

@@ -7,9 +7,10 @@ A cell is a tuple of the bits of its doubles, as in calculation/workbook.py.
 import re
 import struct
 from collections import namedtuple
-from decimal import ROUND_HALF_UP, Decimal
+from decimal import ROUND_HALF_EVEN, Decimal
+from fractions import Fraction
 
-from calculation.workbook import LIMITS, converted
+from calculation.workbook import LIMITS, converted, values_of
 from cases.line_writer import BLANK, bits
 from command.amounts import grouped, moved
 from command.fields import (
@@ -124,13 +125,22 @@ def cell_text(cell):
 def conversion(place, cell):
     """How the number of a cell came about."""
     ends = [converted((end,)) for end in cell]
+    halves = [half_told(1000 * value) for value in values_of(cell)]
     number = "%s %s" % (grouped(converted(cell)), place.small_unit)
     if len(cell) == 2:
-        number = "its ends are %s and %s %s, their mean is %s" % (
-            *map(grouped, ends), place.small_unit, number)
-        if sum(ends) % 2:
-            number += " (%s, halves up)" % moved(5 * sum(ends), 1)
+        number = "its ends are %s and %s %s, their mean is %s%s" % (
+            *[grouped(end) + half for end, half in zip(ends, halves)],
+            place.small_unit, number, half_told(Fraction(sum(ends), 2)))
+    else:
+        number += halves[0]
     return "%s %s %s: %s" % (place.name, cell_text(cell), place.unit, number)
+
+
+def half_told(exact):
+    """What is said of a rounded number whose exact one is a half."""
+    if exact.denominator != 2:
+        return ""
+    return " (%s, a half goes to the even number)" % moved(int(10 * exact), 1)
 
 
 def by_exact_value(cell):
@@ -138,7 +148,7 @@ def by_exact_value(cell):
     is written for it would be."""
     for end in cell:
         written = Decimal(number_text(end))
-        by_text = int(written.quantize(Decimal("0.001"), ROUND_HALF_UP)
+        by_text = int(written.quantize(Decimal("0.001"), ROUND_HALF_EVEN)
                       .scaleb(3))
         if by_text != converted((end,)):
             yield ("as a double %s is %s, so it becomes %s and not %s" % (

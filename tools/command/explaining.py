@@ -538,8 +538,9 @@ def rounding_lines(product):
     if remainder == 0:
         return []
     why = ("less than half of 1000: rounded down" if remainder < 500 else
-           "half of 1000: halves are rounded up" if remainder == 500 else
-           "more than half of 1000: rounded up")
+           "more than half of 1000: rounded up" if remainder > 500 else
+           "half of 1000: of %s and %s, a half goes to the even number, %s"
+           % tuple(map(grouped, (floor, floor + 1, nearest(product, 1000)))))
     return fitted(2, "quotient %s, remainder %d," % (
         grouped(floor), remainder), why)
 

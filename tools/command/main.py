@@ -87,7 +87,8 @@ EXPLAIN = """\
 Shows how a chain's shares came about, element by element: what is divided, by
 what, the exact share, floor and remainder, which remainders the µg left over
 go to, and the sum, for operation and for provision; and how a quote was
-rounded. Each result is compared with that of the proved program.
+rounded, to the nearest µg and from a half to the even number. Each result is
+compared with that of the proved program.
 """
 
 LINES = """\
@@ -100,8 +101,9 @@ a span of two numbers as 3.1..3.4, or blank:
     0.5..0.75,1430000,0
 
 A number becomes the nearest whole thousandth of the exact value of its double,
-halves up, and a span the mean of its two. The row is then posted. A blank cell
-is refused. Each row is answered by the number of its line in the file.
+and a span the mean of its two; a half goes to the even number. The row is then
+posted. A blank cell is refused. Each row is answered by the number of its line
+in the file.
 
 The columns are separated by `,`, or by `;` or tabs, and then decimals may stand
 behind a comma. Rows without any cell are passed over, and so is a heading. Where

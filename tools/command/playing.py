@@ -445,18 +445,21 @@ WHAT_FOR = {
 # What else is worth knowing of a word.
 MORE = {
     "line": "a cell is blank (`-`), a number, or a span with two points; it "
-            "becomes whole thousandths, the nearest to its double, halves up, "
-            "and a span the mean of its two; the cells may stand without their "
-            "words, in this order",
+            "becomes whole thousandths, the nearest to its double, and a span "
+            "the mean of its two; a half goes to the even number; the cells "
+            "may stand without their words, in this order",
     "strike": "an entry is struck once and stays struck; its number is not "
               "given again",
     "enrol": "the passengers of a category are all weighed, each element with "
              "its `kg`, or none is",
+    "quote": "its emissions are in whole µg: intensity × mass × distance / "
+             "1000, the nearest, and a half goes to the even number",
     "preview": "the book stays as it is; what is not of the category is shown "
                "with what it holds now",
     "close": "it stays closed, and takes no more entries, elements or strikes",
     "intensity": "it is in whole mg: what benefits all and what benefits the "
-                 "group are rounded apart, halves up, and then added",
+                 "group are rounded apart, a half to the even number, and "
+                 "then added",
     "load": "the book so far is left, also where the load stops at a record",
     "save": "no file is written over",
 }
