@@ -41,7 +41,7 @@ def example(check):
         # What the example says of its rows.
         ("4", (625, 1_430_000_000, 0)), ("5", (5_500, 3_922_000_000, 0)),
         ("6", (1_788, 1_430_000_000, 0)), ("3", (6_400_000, 0, 41_300)),
-        ("11", (62, 2_510_000, 620_000)), ("12", (1_000, 2_510_000, 620_000)),
+        ("11", (62, 2_510_000, 620_000)), ("12", (501, 2_510_000, 620_000)),
     ):
         row = next(row for row in Rows(stored(
             "examples", "wharf-sheet.csv")).rows if row.number == int(sheet))
@@ -76,7 +76,7 @@ def as_entries(check):
         check(listed[0] == 0 and listed[1].count("\nentry ") == 7, "played",
               listed)
         found = run("lines", file.name, WHARF_SHEET, "2", "chilled")[1]
-        check("\n  12     14      1_000" in found and found.endswith(
+        check("\n  12     14        501" in found and found.endswith(
             "11 rows: 7 posted as entries 8 to 14, 4 refused\n"), "again",
             found)
     # Closed, its customers are charged with all of them.

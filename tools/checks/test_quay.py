@@ -360,12 +360,16 @@ def stored_explanations():
 
 
 def board():
-    """The book for the blackboard has what document 01 reckons by hand, half a
-    microgram, and its first closing with heads of 50 kg."""
+    """The book for the blackboard has what document 01 reckons by hand, halves
+    of an even and an odd number, and its first closing with heads of 50 kg."""
     *lines, last = run("sheet", BOARD)[1].splitlines()[1:]
-    check([int(line.split()[3]) for line in lines]
-          == [3, 1, 5, 2, 11, 4, 3, 3, 0, 5, 1, 3], "reckoned by hand", lines)
-    check(last == "all 12 0 41 0 41", "their sum", last)
+    operation, provision = ([int(line.split()[place]) for line in lines]
+                            for place in (3, 4))
+    check(operation == [3, 1, 5, 2, 11, 4, 3, 3, 0, 5, 1, 3],
+          "reckoned by hand", lines)
+    check(provision == [0, 0, 0, 0, 0, 0, 0, 0, 2, 0, 0, 0],
+          "reckoned by hand", lines)
+    check(last == "all 12 0 41 2 43", "their sum", last)
 
 
 FERRY_TABLE = """\
