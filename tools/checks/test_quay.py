@@ -18,7 +18,9 @@ sys.path.insert(0, os.path.dirname(os.path.dirname(os.path.abspath(__file__))))
 
 import pack
 from calculation import book
+from calculation.rounding import nearest
 from calculation.sheet import sheet
+from calculation.workbook import converted
 from cases.line_writer import bits
 from checks import explain_checks, refusal_checks, row_checks
 from checks.checking import Checks
@@ -1659,7 +1661,8 @@ def help_texts():
 
 def documents():
     """README has every refusal with its meaning; it, docs/BOOKS.md and the
-    example itself show what is printed."""
+    example itself show what is printed, and both say how halves are rounded.
+    """
     table = dict(re.findall(r"^\| ([0-9]+) \| ([^|]*[^| ]) +\|", stored(
         "README.md"), re.M))
     check({int(number): meaning for number, meaning in table.items()}
@@ -1691,6 +1694,26 @@ def documents():
               in stored(page), "a page shows", page, output)
     check("".join("#     %s\n" % line for line in DOCUMENT_SHEET.splitlines())
           in stored("examples", "document.txt"), "the example shows its sheet")
+    for page, words, numbers in (
+        ("README.md", "0.5 becomes %d, 1.5 becomes %d and 2.5 becomes %d",
+         [nearest(number, 2) for number in (1, 3, 5)]),
+        ("docs/BOOKS.md", "0.5 becomes %d and 2.5 becomes %d, 1.5 becomes %d "
+         "and 3.5 becomes %d", [nearest(number, 2) for number in (1, 5, 3, 7)]),
+        ("docs/BOOKS.md", "0.5 and 0.5 give %d, 1.5 and 1.5 give %d",
+         [2 * nearest(number, 2) for number in (1, 3)]),
+        ("docs/BOOKS.md", "0.062..0.187 has the mean 124.5 and becomes %d, "
+         "0.063..0.188 has 125.5 and becomes %d",
+         [converted((bits(0.062), bits(0.187))),
+          converted((bits(0.063), bits(0.188)))]),
+        ("docs/BOOKS.md", "0.0625 and 0.1875 are doubles: they are 62.5 and "
+         "187.5 thousandths, both halves, and become %d and %d. 0.5015 is none: "
+         "the nearest double is a little less, and becomes %d and not 502; that "
+         "of 2.0005 is a little more, and becomes %d,%03d and not 2,000",
+         [converted((bits(number),)) for number in (0.0625, 0.1875, 0.5015)]
+         + list(divmod(converted((bits(2.0005),)), 1000))),
+    ):
+        check(words % tuple(numbers) in " ".join(stored(page).split()),
+              "a page says", page, words, numbers)
 
 
 shown_amounts()
