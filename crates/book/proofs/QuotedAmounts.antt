@@ -20,9 +20,9 @@ thousands-apart i a =
     omega arith
 
 -- a quote's amount by these, each step capped
-pub amount-rounded : (i a : ℕ) {whole quotient unit amount : ℕ} → whole ≡ capped (i * (a / 1000))
-    → quotient ≡ capped (whole + i * (a % 1000) / 1000) → unit ≡ addedByRounding quotient (i * (a % 1000) % 1000) 1000
-    → amount ≡ capped (quotient + unit) → amount ≡ capped (nearest (i * a) 1000)
+pub amount-rounded : (i a : ℕ) {whole quotient added amount : ℕ} → whole ≡ capped (i * (a / 1000))
+    → quotient ≡ capped (whole + i * (a % 1000) / 1000) → added ≡ addedByRounding quotient (i * (a % 1000) % 1000) 1000
+    → amount ≡ capped (quotient + added) → amount ≡ capped (nearest (i * a) 1000)
 amount-rounded i a w q u e =
     let exact = i * (a / 1000) + i * (a % 1000) / 1000 in
     e

@@ -47,9 +47,9 @@ shifting-next {amount} {tens} {total} {whole} {rest} {left} {more} {next} s some
     again (suc left) h p = let tenth : 10 ^ suc left ≡ 10 ^ left * 10 = pow-suc 10 left in
         rw sub-one (omega (arith, p, ap (λ (n : ℕ). s .shifted * n) tenth))
 
-pub shifting-done : {amount tens total whole rest left unit last : ℕ} → Shifting amount tens total whole rest left → left ≡ 0
-    → unit ≡ addedByRounding whole rest total → last ≡ capped (whole + unit) → last ≡ capped (nearest (amount * 10 ^ tens) total)
-shifting-done {amount} {tens} {total} {whole} {rest} {left} {unit} {last} s end u e =
+pub shifting-done : {amount tens total whole rest left added last : ℕ} → Shifting amount tens total whole rest left → left ≡ 0
+    → added ≡ addedByRounding whole rest total → last ≡ capped (whole + added) → last ≡ capped (nearest (amount * 10 ^ tens) total)
+shifting-done {amount} {tens} {total} {whole} {rest} {left} {added} {last} s end u e =
     let one : s .shifted * 10 ^ 0 ≡ amount * 10 ^ tens = rw end at (s .is) in
     let all : s .exact * total + rest ≡ amount * 10 ^ tens = omega (arith, s .parts, one) in
     e ∙ rw (u, s .whole-is, capped-rounded (s .exact) rest total (s .less), all)

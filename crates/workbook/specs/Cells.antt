@@ -27,7 +27,7 @@ cellGrounds limit (Span x y) = (15, isRefused limit x || isRefused limit y) ∷ 
 abbrev pub cellRefusal : ℕ → Cell → ℕ
 cellRefusal limit cell = firstOf (cellGrounds limit cell)
 
--- "A span becomes the mean of its two converted ends", rounded; "also the mean of a span" goes to the even number at a half
+-- "A span becomes the mean of its two converted ends", to the nearest whole number; halves by document 02's "also the mean of a span"
 abbrev pub mean : ℕ → ℕ → ℕ
 mean a b = nearest (a + b) 2
 

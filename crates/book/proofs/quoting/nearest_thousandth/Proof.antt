@@ -35,13 +35,13 @@ add-requires-2 c κs = search needs
 
 returns : tie.Need-returns
 returns c =
-    let unit = c .before in
-    let quotient = unit .before in
+    let added = c .before in
+    let quotient = added .before in
     let whole = quotient .before in
     amount-rounded (whole .before .args .intensity) (whole .before .args .product)
     (whole .multiply .ensures)
     (quotient .add .ensures)
-    (unit .added-by-rounding .ensures .0)
+    (added .added-by-rounding .ensures .0)
     (c .add2 .ensures)
 
 pub nearest-thousandth-spec : {M : Type 1} → statement M
