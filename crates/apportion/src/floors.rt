@@ -5,7 +5,7 @@ ghost use Rattle.apportion.specs.Dividing.{most_pool, most_total, floor_at, rema
 ghost use Rattle.apportion.specs.Inner.Products.{Accepted, Powers};
 
 // A number by its quotient and its remainder.
-#[derive(Drop)]
+#[derive(Clone, Copy)]
 struct Division {
     pub quotient: u64,
     pub remainder: u64,

@@ -1,5 +1,7 @@
 // The dividing rule (document 01): a pool goes to weights by floors, and the units left over go one
 // each to the largest remainders, equal remainders to the earlier place.
+#![tactic(auto)]
+
 mod floors;
 mod nearest;
 mod refusing;

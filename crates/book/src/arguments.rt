@@ -1,7 +1,7 @@
 // The arguments of the calls that take several, each with its name and in its place of documents 01 and 02.
 use workbook::Line;
 
-#[derive(Drop)]
+#[derive(Clone, Copy)]
 pub struct PostArguments {
     pub category: u64,
     // 0 benefits all, 1 chilled, 2 frozen.
@@ -13,7 +13,7 @@ pub struct PostArguments {
     pub provision_factor: u64,
 }
 
-#[derive(Drop)]
+#[derive(Clone, Copy)]
 pub struct LineArguments {
     pub category: u64,
     // As of a post.
@@ -21,7 +21,7 @@ pub struct LineArguments {
     pub line: Line,
 }
 
-#[derive(Drop)]
+#[derive(Clone, Copy)]
 pub struct EnrolArguments {
     pub category: u64,
     pub chain: u64,
@@ -35,7 +35,7 @@ pub struct EnrolArguments {
     pub kg_per_head: u64,
 }
 
-#[derive(Drop)]
+#[derive(Clone, Copy)]
 pub struct QuoteArguments {
     pub chain: u64,
     // 1 adds the air default to the distance.

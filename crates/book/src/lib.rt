@@ -1,4 +1,6 @@
 // The calls of a book of transport emissions (document 01, "Calls").
+#![tactic(auto)]
+
 mod appending;
 mod arguments;
 mod clearing;

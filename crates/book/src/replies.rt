@@ -6,7 +6,7 @@ ghost use Rattle.book.specs.Statements.{zeros_beside};
 use book_words::Sums;
 
 // What a call that returns a record's number answers.
-#[derive(Drop)]
+#[derive(Clone, Copy)]
 pub struct Reply {
     // 0 where the call is accepted.
     pub refusal: u64,
@@ -22,7 +22,7 @@ pub fn refusal_alone(refusal: u64) -> Reply
 }
 
 // What a call that is handed the sums of its book answers: its reply, and the sums of the book that it leaves.
-#[derive(Drop)]
+#[derive(Clone, Copy)]
 pub struct Counted {
     pub reply: Reply,
     pub sums: Sums,
@@ -39,7 +39,7 @@ pub fn refused_with(refusal: u64, sums: Sums) -> Counted
 }
 
 // What a statement answers.
-#[derive(Drop)]
+#[derive(Clone, Copy)]
 pub struct Statement {
     // 0 where the call is accepted; where it is refused, all else is 0.
     pub refusal: u64,

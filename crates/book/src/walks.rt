@@ -10,7 +10,7 @@ ghost use Rattle.book.specs.Walk.{held_after};
 use book_words::Element;
 
 // What a walk holds, over those of the elements passed that it asks for.
-#[derive(Drop)]
+#[derive(Clone, Copy)]
 pub struct Held {
     // How many there are, and how many of them are in open categories.
     pub elements: u64,

@@ -3,7 +3,7 @@ ghost use Rattle.std.specs.Prelude.{◌≡◌};
 ghost use Rattle.book_file.specs.Answers.{place_numbers, numbers_of, answer_at};
 
 // Where a load stopped: the header, or a table and the number of its record.
-#[derive(Drop)]
+#[derive(Clone, Copy)]
 pub enum Place {
     Header,
     Category(u64),
@@ -13,7 +13,7 @@ pub enum Place {
     Closing(u64),
 }
 
-#[derive(Drop)]
+#[derive(Clone, Copy)]
 pub enum Load {
     Loaded,
     // The refusal number and the place.
@@ -21,7 +21,7 @@ pub enum Load {
 }
 
 // An answer as document 01's numbers; zeros where the file is loaded.
-#[derive(Drop)]
+#[derive(Clone, Copy)]
 pub struct Numbers {
     pub refusal: u64,
     // 0 is the header, 1 categories, 2 entries, 3 elements, 4 closings.

@@ -12,7 +12,7 @@ const LENGTH: usize = 32;
 const MOST_BYTES: usize = 16_384;
 
 // A section: how many records it has, where the first starts, and the bytes of each.
-#[derive(Drop)]
+#[derive(Clone, Copy)]
 pub struct Section {
     pub count: usize,
     pub start: usize,

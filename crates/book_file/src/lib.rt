@@ -1,5 +1,7 @@
 // Loading a book from a file (document 01, "The file"): the header, the sections, and the records, each of which asks for a
 // call.
+#![tactic(auto)]
+
 mod answers;
 mod header;
 mod loading;

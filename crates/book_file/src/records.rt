@@ -5,13 +5,13 @@ ghost use Rattle.book_file.specs.File.{category_record, entry_record, element_re
 use crate::numbers::{u32_at, u64_at};
 use book::PostArguments;
 
-#[derive(Drop)]
+#[derive(Clone, Copy)]
 pub struct CategoryRecord {
     pub kind: u64,
     pub flag: u64,
 }
 
-#[derive(Drop)]
+#[derive(Clone, Copy)]
 pub struct ElementRecord {
     pub category: u64,
     pub chain: u64,

@@ -14,7 +14,7 @@ use book::{Counted, EnrolArguments, PostArguments, QuoteArguments};
 use book_words::Sums;
 
 // The records that ask for calls. The categories do so twice: to be opened, and those flagged to be closed.
-#[derive(Drop)]
+#[derive(Clone, Copy)]
 pub enum Table {
     Categories,
     Entries,
@@ -23,7 +23,7 @@ pub enum Table {
 }
 
 // What a load has come to: its answer so far, and the sums of the book that it has made.
-#[derive(Drop)]
+#[derive(Clone, Copy)]
 pub struct Reached {
     pub answer: Load,
     pub sums: Sums,

@@ -19,7 +19,7 @@ use book_words::Side;
 const MOST_RESULT: u64 = 1_000_000_000_000_000;
 
 // What an intensity answers.
-#[derive(Drop)]
+#[derive(Clone, Copy)]
 pub struct Intensity {
     // 0 where the call is accepted.
     pub refusal: u64,

@@ -1,5 +1,7 @@
 // The shares of a category (document 01, "Close" and "Intensity"; document 02, a preview): the pools of its
 // unstruck entries, the activities that they are divided by, and what each element gets.
+#![tactic(auto)]
+
 mod closings;
 mod handing_out;
 mod intensities;

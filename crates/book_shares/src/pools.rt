@@ -7,7 +7,7 @@ ghost use Rattle.book_shares.specs.Inner.Steps.{pools_with, pools_by, group_pool
 use book_words::{Entry, Side};
 
 // The three pools of a category, on one side.
-#[derive(Drop)]
+#[derive(Clone, Copy)]
 pub struct Pools {
     // A.
     pub all: u64,

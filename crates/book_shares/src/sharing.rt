@@ -14,7 +14,7 @@ use crate::{pools, weights};
 use book_words::Side;
 
 // A divided by the weights F and P.
-#[derive(Drop)]
+#[derive(Clone, Copy)]
 pub struct Parts {
     pub freight: u64,
     pub passengers: u64,

@@ -12,7 +12,7 @@ ghost use Rattle.book_shares.specs.Sums.{receives};
 use book_words::Element;
 
 // The elements that a pool goes to.
-#[derive(Drop)]
+#[derive(Clone, Copy)]
 pub enum Recipients {
     // Ambient, chilled or frozen.
     Freight,
@@ -43,7 +43,7 @@ fn weight(recipients: Recipients, e: Element) -> u64
 }
 
 // What a sum over elements adds up.
-#[derive(Drop)]
+#[derive(Clone, Copy)]
 pub enum Measure {
     // Their activity, where a pool goes to them: F, C or S.
     Activity(Recipients),

@@ -1,5 +1,7 @@
 // The words of a book (document 01, "The book"): its records, the sums over them, and the test of its
 // soundness. What the calls of the crate above are made of.
+#![tactic(auto)]
+
 mod measures;
 mod mixture;
 mod records;

@@ -16,7 +16,7 @@ pub const ENTRIES: usize = 2;
 pub const ELEMENTS: usize = 3;
 
 // Where a list is.
-#[derive(Drop)]
+#[derive(Clone, Copy)]
 pub struct Layout {
     // The word that counts its records.
     pub counter: usize,
@@ -62,14 +62,14 @@ pub const MOST_ENTRIES: u64 = 64;
 
 pub const MOST_ELEMENTS: u64 = 256;
 
-#[derive(Drop)]
+#[derive(Clone, Copy)]
 pub struct Category {
     // 1 freight, 2 passengers, 3 both, 4 freight hub.
     pub kind: u64,
     pub closed: u64,
 }
 
-#[derive(Drop)]
+#[derive(Clone, Copy)]
 pub struct Entry {
     pub category: u64,
     // 0 benefits all, 1 chilled, 2 frozen.
@@ -79,7 +79,7 @@ pub struct Entry {
     pub struck: u64,
 }
 
-#[derive(Drop)]
+#[derive(Clone, Copy)]
 pub struct Element {
     // 0 when quoted.
     pub category: u64,

@@ -22,21 +22,21 @@ const MOST_EXACT: u64 = 1_000_000_000_000_000_000;
 const MOST_ACTIVITY: u64 = 100_000_000_000_000_000;
 
 // Vehicle operation or energy provision.
-#[derive(Drop)]
+#[derive(Clone, Copy)]
 pub enum Side {
     Operation,
     Provision,
 }
 
 // An amount of operation and one of provision, kept apart.
-#[derive(Drop)]
+#[derive(Clone, Copy)]
 pub struct Amounts {
     pub operation: u64,
     pub provision: u64,
 }
 
 // The sums of ground 10: unstruck entries plus quoted shares, and the activity over all elements.
-#[derive(Drop)]
+#[derive(Clone, Copy)]
 pub struct Sums {
     pub operation: u64,
     pub provision: u64,

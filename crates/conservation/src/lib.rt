@@ -1,5 +1,7 @@
 // Demand 3: "The emissions of a book are all handed out, and none twice." Document 01 has its terms, under "Lists and the tally".
 // A call is given as a value here, so that lists of calls can be spoken of.
+#![tactic(auto)]
+
 ghost use Rattle.std.specs.Prelude.{◌≡◌};
 ghost use Rattle.conservation.specs.Runs.{step};
 
@@ -7,7 +9,7 @@ use book::{EnrolArguments, LineArguments, PostArguments, QuoteArguments, Reply};
 
 // A call of a list, with its arguments. A list starts from a fresh book; statement and intensity are lent the
 // words to read only.
-#[derive(Drop)]
+#[derive(Clone, Copy)]
 pub enum Call {
     // Kind.
     Open(u64),

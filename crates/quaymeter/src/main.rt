@@ -1,4 +1,6 @@
 // Reads a file from standard input and prints its sheet, or the line of its refusal, to standard output.
+#![tactic(auto)]
+
 ghost use Rattle.std.specs.Prelude.{true, ◌++◌, ◌≡◌, ◌<◌, length, drop};
 ghost use Rattle.io.specs.Counts.{IsPrefixLen};
 ghost use Rattle.book_file.specs.Answers.{place_numbers};

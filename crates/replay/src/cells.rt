@@ -12,7 +12,7 @@ use crate::state::State;
 use workbook::{Cell, Line};
 
 // The cells that are listed: so many of a line, from the left. Those behind them are blank.
-#[derive(Drop)]
+#[derive(Clone, Copy)]
 pub struct Cells {
     pub count: u64,
     pub line: Line,

@@ -3,6 +3,8 @@
 // A call is a record of 64 bytes: eight words, the operation and seven arguments. After operation 15 the records
 // are the bytes of a file, the last padded to a whole record. The line of a bad record, `bad record N`, is the last;
 // so is that of a record that does not come, where the input ends within a file.
+#![tactic(auto)]
+
 mod calls;
 mod cells;
 mod files;

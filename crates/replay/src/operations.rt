@@ -10,7 +10,7 @@ use crate::state::State;
 use crate::{calls, cells, files, memory, previews, records, state};
 
 // What a record leaves to do: its operation, once no byte of its file is missing. Operation 0 is bad.
-#[derive(Drop)]
+#[derive(Clone, Copy)]
 pub struct Received {
     pub operation: u64,
     pub words: Words,

@@ -13,7 +13,7 @@ use libc::STDOUT_FILENO;
 
 pub type Buffer = [u8; 65_536];
 
-#[derive(Drop)]
+#[derive(Clone, Copy)]
 pub struct Output {
     // The waiting bytes are those before this position.
     pub at: usize,
@@ -22,7 +22,7 @@ pub struct Output {
 }
 
 // The numbers that an operation answers: the first `count` of these.
-#[derive(Drop)]
+#[derive(Clone, Copy)]
 pub struct Answer {
     pub numbers: [u64; 6],
     pub count: usize,

@@ -8,7 +8,7 @@ use book_file::u64_at;
 pub const SIZE: usize = 64;
 
 // The operation and its seven arguments.
-#[derive(Drop)]
+#[derive(Clone, Copy)]
 pub struct Words {
     pub operation: u64,
     pub first: u64,

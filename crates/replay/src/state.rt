@@ -7,7 +7,7 @@ use crate::cells::Cells;
 use crate::output::Output;
 use crate::{cells, memory};
 
-#[derive(Drop)]
+#[derive(Clone, Copy)]
 pub struct State {
     // How many weights are listed.
     pub count: usize,

@@ -7,7 +7,7 @@ ghost use Rattle.report.specs.Inner.Index.{chain_in, place_in, Ascending, words_
 use book_words::MOST_ELEMENTS;
 
 // What is found of a chain: how many words the index then has, and the place in the chain's word.
-#[derive(Drop)]
+#[derive(Clone, Copy)]
 pub struct Found {
     pub used: usize,
     pub place: u64,

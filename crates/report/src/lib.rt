@@ -1,4 +1,6 @@
 // The text of a statement sheet as bytes, and of a refusal (document 01, "The file": what the program prints).
+#![tactic(auto)]
+
 mod index;
 mod printing;
 mod refusals;

@@ -3,7 +3,7 @@ ghost use Rattle.std.specs.Prelude.{◌≡◌, length};
 ghost use Rattle.report.specs.Printing.{printed_numbers, answer_for, numbers_for, buffer_with};
 
 // What printing answers.
-#[derive(Drop)]
+#[derive(Clone, Copy)]
 pub enum Printed {
     // The text stands at the start of the buffer and has this length.
     Written(usize),

@@ -15,7 +15,7 @@ use book_words::MOST_CHAINS;
 const SLOT_WIDTH: usize = 4;
 
 // What the walk collects beside the table: how many chains are used, and what it holds over all of them.
-#[derive(Drop)]
+#[derive(Clone, Copy)]
 pub struct Collected {
     pub used: usize,
     pub total: Held,

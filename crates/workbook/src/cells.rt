@@ -8,7 +8,7 @@ ghost use Rattle.workbook.specs.Inner.Steps.{conversion_of, refusal_of, value_of
 use crate::doubles;
 use apportion::added_by_rounding;
 
-#[derive(Drop)]
+#[derive(Clone, Copy)]
 pub enum Cell {
     Blank,
     Number(f64),
@@ -16,14 +16,14 @@ pub enum Cell {
 }
 
 // The two doubles of a span.
-#[derive(Drop)]
+#[derive(Clone, Copy)]
 pub struct Ends {
     pub first: f64,
     pub second: f64,
 }
 
 // What a cell is converted to.
-#[derive(Drop)]
+#[derive(Clone, Copy)]
 pub enum Conversion {
     // In thousandths.
     Value(u64),

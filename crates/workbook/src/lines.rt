@@ -11,7 +11,7 @@ const QUANTITY_LIMIT: u32 = 1_000_000_000;
 
 const FACTOR_LIMIT: u32 = 10_000_000;
 
-#[derive(Drop)]
+#[derive(Clone, Copy)]
 pub struct Line {
     // In units.
     pub quantity: Cell,
@@ -21,7 +21,7 @@ pub struct Line {
 }
 
 // What a line is posted with; where it is refused, its number with zeros.
-#[derive(Drop)]
+#[derive(Clone, Copy)]
 pub struct ConvertedLine {
     pub refusal: u64,
     // Thousandths of a unit.

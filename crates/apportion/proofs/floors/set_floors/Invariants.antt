@@ -1,0 +1,12 @@
+-- `apportion::floors::set_floors` meets its contract: up to place k the floors and remainders are those of the definition, and
+-- `left` is the pool without these floors. Assumes nothing.
+use Prim.Native.Nat.{◌-◌}
+use lib.ListN.{length}
+use Rattle.apportion.proofs.FloorLoop.{Flooring}
+use Rattle.apportion.proofs.floors.set_floors.Given as goal
+
+abbrev pub invariant-loop-k : goal.invariant-loop-k
+invariant-loop-k l = Flooring l.pool l.weights l.initial.floors l.initial.remainders l.floors l.remainders l.left l.k
+
+abbrev pub decreases-loop-k : goal.decreases-loop-k
+decreases-loop-k l = length l.weights - l.k
