@@ -155,6 +155,8 @@ class Function:
                 return Value(place=self.parent(v.place))
             if f == "args":
                 return Value("c.args", ctx=("args",))
+            if norm(f) == "well_formed":
+                return Value("c.well_formed")
             if f in ("pre", "requires"):
                 pre = self.n["pre"]
                 return Value("c.requires", ctx=("clauses", pre["fields"], 0) if pre else None)
@@ -163,6 +165,10 @@ class Function:
             near = [(abs(path.index(v.place) - k), i) for k, i in enumerate(path) if norm(self.n["places"][i][2][0]) == norm(f)]
             if near:
                 i = min(near)[1]
+                arm = self.n["arms"][i]
+                told = [(new, path) for new, old, path in arm[2] if old == self.n["places"][i][2][0]] if arm else []
+                if told and not (len(told) == 1 and told[0][0].endswith("-own")):
+                    return Value("c." + arm[0], ctx=("arm", told, []))
                 known = "slice_known" in norm(f) or "array_known" in norm(f)
                 return Value("c." + self.n["places"][i][2][1], ctx=("known" if known else "step", i))
             raise Unknown(f"the field {f} at {p[0]}, whose step is {p[2][0]}")
@@ -187,9 +193,20 @@ class Function:
                 callee = self.n["places"][place][3]
                 return Value(v.text + "." + ("auto" if f == "auto" else "new"), ctx=("new", self.n["params"].get(callee, []), 0))
             f = {"inv": "invariant", "taken": "true", "left": "false"}.get(f, f)
+            if f in ("true", "false") and v.text.startswith("c.if-not-"):
+                # a test of `!x` says now what x is
+                return Value(f"(ap not {v.text}.{f})")
             if f in ("invariant", "true", "false", "result", "branch", "auto", "is"):
                 return Value(v.text + "." + f)
             return Value(v.text + "." + norm(f))
+        if c[0] == "arm":
+            path = c[2] + [f]
+            for new, old in c[1]:
+                if old == path:
+                    return Value(v.text + "." + new)
+            if any(old[: len(path)] == path for new, old in c[1]):
+                return Value(v.text, ctx=("arm", c[1], path))
+            raise Unknown(f"{'.'.join(path)} of the arm {v.text}")
         if c[0] == "clauses":
             fields, k = c[1], c[2]
             if f.isdigit():
@@ -404,30 +421,35 @@ def goal_name(d, fn):
 
 
 def components(nodes, n):
-    """The n parts of a nested pair that is all of a term, or None."""
+    """The n parts of a nested pair that is all of a term; a part that is no pair in sight is taken apart by its fields. None for a tactic's."""
     parts = []
     while True:
         inner = [x for x in nodes if not (x[0] == "text" and not x[1].strip())]
         if n == 1:
             return parts + [nodes]
-        if len(inner) != 1 or inner[0][0] != "group" or inner[0][1] != "(" or inner[0][3]:
-            return None
+        is_pair = len(inner) == 1 and inner[0][:2] == ("group", "(") and not inner[0][3] and ("text", ",") in inner[0][2]
+        if not is_pair:
+            if not inner or (inner[0][0] == "path" and not inner[0][2] and inner[0][1] in TACTICS):
+                return None
+            ends = [["1"] * i + (["0"] if i < n - 1 else []) for i in range(n)]
+            if len(inner) == 1 and inner[0][0] == "path":
+                return parts + [[("path", inner[0][1], inner[0][2] + e)] for e in ends]
+            if len(inner) == 1 and inner[0][0] == "group":
+                return parts + [[("group", "(", inner[0][2], inner[0][3] + e)] for e in ends]
+            return parts + [[("group", "(", nodes, e)] for e in ends]
         body = inner[0][2]
-        for i, x in enumerate(body):
-            if x == ("text", ","):
-                break
-        else:
-            return None
+        i = body.index(("text", ","))
         parts.append(body[:i])
         nodes = body[i + 1:]
-        # a flat tuple, or a comma at the end
-        if n > 2 and any(x == ("text", ",") for x in nodes):
-            tail = [x for x in nodes if not (x[0] == "text" and not x[1].strip())]
-            if not (len(tail) >= 1 and tail[-1] == ("text", ",")):
-                nodes = [("group", "(", nodes, [])]
         while nodes and nodes[-1][0] == "text" and not nodes[-1][1].strip(", \n"):
             nodes = nodes[:-1]
+        # a flat tuple
+        if n > 2 and ("text", ",") in nodes:
+            nodes = [("group", "(", nodes, [])]
         n -= 1
+
+
+TACTICS = ("omega", "search", "cc", "grind", "simp", "refl", "rw")
 
 
 def strip_lets(nodes):
@@ -453,7 +475,11 @@ def strip_lets(nodes):
             return i
 
 
-TACTIC = re.compile(r"^\s*(omega|search|cc|grind|simp|refl|rw)\b")
+def bare(text, helpers):
+    """The text with no brackets round a helper that takes nothing now."""
+    for h in helpers:
+        text = re.sub(rf"\({re.escape(norm(h))}\)(?!\.)", norm(h), text)
+    return text
 
 
 def answer(d, fn, helpers, places):
@@ -483,20 +509,19 @@ def answer(d, fn, helpers, places):
             parted = [lets, [x.strip() for x in fields[:len(asked)]]]
             said = ""
         else:
-            said = t.text(nodes, env)
-            lets_nodes = t.text(nodes[:at], env) if at else ""
-            final = said[len(lets_nodes):].strip() if said.startswith(lets_nodes) else said
-            if TACTIC.match(final):
-                parted = [lets_nodes, [final] * len(asked)]
-            else:
-                parted = [lets_nodes, [f"({final})" + ".1" * i + (".0" if i < len(asked) - 1 else "") for i in range(len(asked))]]
+            said = t.text(nodes[:at] + [("text", "\ue000")] + nodes[at:], env)
+            lets, final = said.split("\ue000")
+            parted = [lets, [final.strip()] * len(asked)]
             said = ""
     else:
         said = t.text(nodes, env)
     lets, unfolding = "", list(d.unfolding)
+    said = bare(said, t.used)
+    if parted:
+        parted = [bare(parted[0], t.used), [bare(x, t.used) for x in parted[1]]]
     for h in t.used:
         type_text, body_text, unf = t.said[h]
-        lets += f"let {norm(h)} : {type_text} = {body_text} in\n    "
+        lets += bare(f"let {norm(h)} : {type_text} = {body_text} in\n    ", t.used)
         unfolding += [u for u in unf if u not in unfolding]
     if parted:
         parted = {f: lets + (parted[0].strip() + "\n    " if parted[0].strip() else "") + x for f, x in zip(asked, parted[1])}
@@ -526,7 +551,7 @@ def invariant(d, fn, kind):
 
 def pruned(uses, text):
     words = set(re.findall(r"[^\s(){}\[\],;.]+", text)) | set(re.findall(rf"{IDENT}", text))
-    out = []
+    out, seen = [], set()
     for u in uses:
         m = re.match(r"^(.*?)\.\{(.*)\}$", u, re.S)
         if not m:
@@ -538,16 +563,21 @@ def pruned(uses, text):
         keep = []
         for n in m.group(2).split(","):
             n = n.strip()
+            if n in ("ap", "not"):
+                seen.add(n)
+            n = n.strip()
             if not n:
                 continue
             shown = n.split(" as ")[-1]
             bare = shown.strip("◌")
             if n in ("statement",):
                 continue
-            if shown in words or ("◌" in shown and all(p in text for p in shown.split("◌") if p)):
+            if shown in words or shown == "[]" and "[]" in text or ("◌" in shown and all(p in text for p in shown.split("◌") if p)):
                 keep.append(n)
         if keep:
             out.append(f"{m.group(1)}.{{{', '.join(keep)}}}")
+    if "(ap not " in text:
+        out += [line for n, line in (("ap", "use mathlib.Core.Path.{ap}"), ("not", "use mathlib.Core.Bool.{not}")) if n not in seen]
     return out
 
 
@@ -560,7 +590,7 @@ def turn(folder, names, crate, function):
             bad.append(f"{d.name or d.type[:60]}: not read")
             continue
         try:
-            if NEED.match(d.type) or d.name.endswith("-spec") or re.match(r"^tie\.(invariant|decreases)-", d.type):
+            if NEED.match(d.type) or d.name.endswith(("-spec", "_spec")) or re.match(r"^tie\.(invariant|decreases)-", d.type):
                 continue
             h = helper_of(d, fn)
             if h is None:
@@ -585,18 +615,27 @@ def turn(folder, names, crate, function):
                     answers.append(a)
         except Unknown as e:
             bad.append(f"{d.name}: {e}\n" + "".join("        | " + x + "\n" for x in d.clauses[0][1].split("\n")))
-    module = f"Rattle.{crate}.proofs.{function}"
+    module, shared = f"Rattle.{crate}.proofs.{function}", set()
     if inv:
         text = ""
+        for d in plain:
+            if any(d.name in re.findall(IDENT, body) for _, _, _, body in inv):
+                text += "\n" + "".join(c + "\n" for c in d.comment) + f"{d.mods}pub {d.name} : {d.type}\n"
+                text += f"unfolding {' '.join(d.unfolding)}\n" if d.unfolding else ""
+                text += "".join(f"{d.name} {' '.join(args)} = {body}\n" for args, body in d.clauses)
+                uses.append(f"use {module}.Invariants.{{{d.name}}}")
+                shared.add(d.name)
         for name, comment, unfolding, body in inv:
             text += "\n" + "".join(c + "\n" for c in comment)
             text += f"abbrev pub {name} : goal.{name}\n"
             text += "".join(f"unfolding {u}\n" for u in unfolding)
             text += f"{name} l = {body}\n"
         with open(os.path.join(folder, "Invariants.antt"), "w", encoding="utf-8") as f:
-            f.write("\n".join(head + pruned(uses, text) + [f"use {module}.Given as goal", ""]) + text)
+            f.write("\n".join(head + pruned([u for u in uses if ".Invariants." not in u], text) + [f"use {module}.Given as goal", ""]) + text)
     offered = {"head": head, "uses": uses, "module": module, "plain": [], "goals": {}, "bad": bad}
     for d in plain:
+        if d.name in shared:
+            continue
         said = "".join(c + "\n" for c in d.comment) + f"{d.mods}{d.name} : {d.type}\n"
         said += "".join(f"unfolding {' '.join(d.unfolding)}\n" if d.unfolding else "" for _ in [0])
         for args, body in d.clauses:

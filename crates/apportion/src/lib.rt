@@ -40,15 +40,6 @@ pub fn divide(pool: u64, weights: &[u64], shares: &mut [u64]) -> u64
     number
 }
 
-// The same for a program in C or in Rust, which passes a slice as its pointer and its length.
-#[unsafe(no_mangle)]
-pub extern "C" fn quaymeter_divide(pool: u64, weights: &[u64], shares: &mut [u64]) -> u64
-    ensures value { result ≡ refusal pool (length weights.now) (length shares.old) (sum_of weights.now) }
-    ensures shares_after { shares.new ≡ shares_after pool weights.now shares.old }
-{
-    divide(pool, weights, shares)
-}
-
 // The refusal number of a division, by its lengths and the sum of its weights.
 fn refusal_number(pool: u64, places: usize, slots: usize, total: u64) -> u64
     ensures { result ≡ refusal pool places slots total }

@@ -1,0 +1,10 @@
+-- `book_shares::intensities::quotient` meets its contract: the amount with some of its tens is held by its quotient and
+-- remainder, ten by ten. Assumes nothing.
+use Rattle.book_shares.proofs.Quotients.{Shifting}
+use Rattle.book_shares.proofs.intensities.quotient.Given as goal
+
+abbrev pub invariant-loop-left : goal.invariant-loop-left
+invariant-loop-left l = Shifting l.amount l.tens l.total l.whole l.rest l.left
+
+abbrev pub decreases-loop-left : goal.decreases-loop-left
+decreases-loop-left l = l.left
