@@ -1,8 +1,7 @@
 // Reads a file from standard input and prints its sheet, or the line of its refusal, to standard output.
 #![tactic(auto)]
 
-ghost use Rattle.std.specs.Prelude.{true, ◌++◌, ◌≡◌, ◌<◌, length, drop};
-ghost use Rattle.io.specs.Counts.{IsPrefixLen};
+ghost use Rattle.std.specs.Prelude.{true, ◌++◌, ◌≡◌, ◌≤◌, ◌<◌, length, take, drop};
 ghost use Rattle.book_file.specs.Answers.{place_numbers};
 ghost use Rattle.book_file.specs.File.{most_bytes};
 ghost use Rattle.book_file.specs.Loading.{load_book};
@@ -13,8 +12,8 @@ ghost use Rattle.report.specs.Sheet.{sheet_text, sheet_room};
 ghost use Rattle.quaymeter.specs.Program.{refused_line, printed_from, printed};
 
 use book_file::{Load, Place};
-use libc::{STDERR_FILENO, STDIN_FILENO, STDOUT_FILENO};
 use report::Printed;
+use std::io::Read;
 
 // One byte more than the longest file, so that a longer input is refused and not cut.
 const INPUT_ROOM: usize = 16_385;
@@ -74,30 +73,39 @@ fn bytes_written(answer: Printed) -> usize
     }
 }
 
-// Reads the input, or its first bytes where it is longer than any file: the buffer has room for the byte that shows it.
-fn read_input(input: &mut [u8]) -> usize
+// Reads the input, or its first bytes where it is longer than any file: the buffer has room for the byte that shows it. A read
+// that fails counts as the end of the input.
+fn read_input(rt: &HostRuntime, input: &mut [u8]) -> usize
     requires { most_bytes < length input.old }
-    ensures { IsPrefixLen result input.new }
+    ensures { (result ≤ length input.new) × (result ≡ length (take result input.new)) }
 {
-    io::read_full(STDIN_FILENO, input)
+    let mut stdin = rt.stdin();
+    let mut done = 0;
+    while done < input.len() {
+        let count = stdin.read(&mut input[done..]).unwrap_or(0);
+        if count == 0 {
+            break;
+        }
+        done += count;
+    }
+    done
 }
 
 // Writes what is to be printed for a file. A write that fails is told on standard error.
-fn write_output(file: &[u8], text: &[u8])
+fn write_output(rt: &HostRuntime, file: &[u8], text: &[u8])
     requires { text.now ≡ printed file.now }
 {
-    if !io::write_all(STDOUT_FILENO, text) {
-        io::write_all(
-            STDERR_FILENO,
-            b"quaymeter: the sheet could not be written\n",
-        );
+    if rt.stdout().write_all(text).is_err() {
+        let _ = rt
+            .stderr()
+            .write_all(b"quaymeter: the sheet could not be written\n");
     }
 }
 
-fn main() {
+fn main(rt: HostRuntime) {
     let mut input = [0u8; INPUT_ROOM];
     let mut out = [0u8; report::SHEET_ROOM];
-    let got = read_input(&mut input);
+    let got = read_input(&rt, &mut input);
     let count = print_file(&input[..got], &mut out);
-    write_output(&input[..got], &out[..count]);
+    write_output(&rt, &input[..got], &out[..count]);
 }

@@ -20,7 +20,7 @@ pub fn take(bytes: &[u8], file: &mut [u8], mut state: State) -> State
     let missing = state.missing;
     let count = state::least(missing, records::SIZE);
     let come = state::least(state.come, ROOM - count);
-    bytes::copy(&bytes[..count], &mut file[come..]);
+    file[come..come + count].copy_from_slice(&bytes[..count]);
     state.come = come + count;
     state.missing = missing - count;
     state

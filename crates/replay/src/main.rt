@@ -15,14 +15,14 @@ mod previews;
 mod records;
 mod state;
 
-ghost use Rattle.std.specs.Prelude.{◌≡◌, true, cond, ◌&&◌, ◌+◌, ◌-◌, ◌≤◌, ◌<◌, ◌^◌, length};
+ghost use Rattle.std.specs.Prelude.{◌≡◌, true, cond, ◌&&◌, ◌+◌, ◌-◌, ◌≤◌, ◌<◌, ◌^◌, length, take};
 ghost use Rattle.replay.specs.Stages.{stage_of, replayed};
 
 use files::File;
-use libc::STDIN_FILENO;
 use memory::Memory;
 use output::Buffer;
 use state::State;
+use std::io::{Read, Stdin};
 
 // Does what the records of a chunk ask, up to a bad one or a write that failed.
 fn play(
@@ -70,17 +70,33 @@ fn turns_left(turns: u64, whole: bool, state: State) -> u64
     0
 }
 
+// Reads until the buffer is full, the input ends or a read fails, and answers how many bytes it put at the start of the buffer.
+fn read_full(mut stdin: Stdin, buffer: &mut [u8]) -> usize
+    ensures { (result ≤ length buffer.new) × (result ≡ length (take result buffer.new)) }
+{
+    let mut done = 0;
+    while done < buffer.len() {
+        let count = stdin.read(&mut buffer[done..]).unwrap_or(0);
+        if count == 0 {
+            break;
+        }
+        done += count;
+    }
+    done
+}
+
 // A proved loop has to end, and nothing says that the input does. So the loop counts its turns down, from
 // a number that no run uses up: that many chunks are just below 2^64 bytes.
-fn main() {
-    let mut chunk = io::large_buffer();
-    let mut buffer = io::large_buffer();
+fn main(rt: HostRuntime) {
+    let stdin = rt.stdin();
+    let mut chunk = [0u8; 65_536];
+    let mut buffer = [0u8; 65_536];
     let mut memory = [0u64; memory::LENGTH + memory::ROOM];
     let mut file = [0u8; files::ROOM];
-    let mut state = state::first();
+    let mut state = state::first(rt.stdout());
     let mut turns = u64::MAX / 65536;
     while turns > 0 {
-        let got = io::read_full(STDIN_FILENO, &mut chunk);
+        let got = read_full(stdin, &mut chunk);
         state = play(&chunk[..got], &mut memory, &mut file, &mut buffer, state);
         turns = turns_left(turns, got == chunk.len(), state);
     }

@@ -9,7 +9,7 @@ ghost use Rattle.replay.specs.Stages.{stage_of, on_machine, ended};
 
 use crate::state;
 use crate::state::State;
-use libc::STDOUT_FILENO;
+use std::io::Stdout;
 
 pub type Buffer = [u8; 65_536];
 
@@ -19,6 +19,8 @@ pub struct Output {
     pub at: usize,
     // False after a write that failed: nothing is written from then on.
     pub ok: bool,
+    // Where the waiting bytes go.
+    pub stdout: Stdout,
 }
 
 // The numbers that an operation answers: the first `count` of these.
@@ -40,11 +42,19 @@ fn write_waiting(buffer: &[u8], output: Output) -> Output
     ensures { Flushed output result }
 {
     if !output.ok {
-        return Output { at: 0, ok: false };
+        return Output {
+            at: 0,
+            ok: false,
+            stdout: output.stdout,
+        };
     }
     let at = state::least(output.at, buffer.len());
-    let ok = io::write_all(STDOUT_FILENO, &buffer[..at]);
-    Output { at: 0, ok }
+    let ok = output.stdout.write_all(&buffer[..at]).is_ok();
+    Output {
+        at: 0,
+        ok,
+        stdout: output.stdout,
+    }
 }
 
 // Puts a byte. Where the buffer is full, what waits is written first.
@@ -58,6 +68,7 @@ fn put_byte(byte: u8, buffer: &mut [u8], output: Output) -> Output
         return Output {
             at: at + 1,
             ok: output.ok,
+            stdout: output.stdout,
         };
     }
     let flushed = write_waiting(buffer, output);
@@ -65,6 +76,7 @@ fn put_byte(byte: u8, buffer: &mut [u8], output: Output) -> Output
     Output {
         at: 1,
         ok: flushed.ok,
+        stdout: flushed.stdout,
     }
 }
 
@@ -86,7 +98,7 @@ fn put_number(number: u64, buffer: &mut Buffer, output: Output) -> Output
     ensures { waiting_in buffer.new result ≡ put (waiting_in buffer.old output) (decimal number) }
 {
     let mut digits = [0u8; 20];
-    let count = io::decimal(number, &mut digits);
+    let count = report::put_number(number, &mut digits, 0);
     put_bytes(&digits[..count], buffer, output)
 }
 

@@ -6,6 +6,7 @@ ghost use Rattle.replay.specs.Stages.{stage_of, first_stage, on_machine};
 use crate::cells::Cells;
 use crate::output::Output;
 use crate::{cells, memory};
+use std::io::Stdout;
 
 #[derive(Clone, Copy)]
 pub struct State {
@@ -27,11 +28,15 @@ pub struct State {
 }
 
 // Before the first record: no weight and no cell is listed, the whole array is lent, no file is on its way and no byte waits.
-pub fn first() -> State
+pub fn first(stdout: Stdout) -> State
     ensures by_index { (file buffer : List ℕ) → stage_of (replicate (array_length + room) 0) file buffer result ≡ first_stage }
     ensures ok_value { result.output.ok ≡ true }
 {
-    let output = Output { at: 0, ok: true };
+    let output = Output {
+        at: 0,
+        ok: true,
+        stdout,
+    };
     let cells = cells::none();
     State {
         count: 0,

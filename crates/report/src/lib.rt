@@ -11,3 +11,4 @@ mod text;
 pub use printing::Printed;
 pub use refusals::refusal_line;
 pub use sheets::{SHEET_ROOM, sheet, sheet_sound};
+pub use text::put_number;

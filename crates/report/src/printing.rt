@@ -23,6 +23,6 @@ pub fn print_text(text: &[u8], out: &mut [u8]) -> Printed
     if out.len() < count {
         return Printed::TooSmall(count);
     }
-    bytes::copy(text, out);
+    out[..count].copy_from_slice(text);
     Printed::Written(count)
 }

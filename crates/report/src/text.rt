@@ -38,7 +38,7 @@ fn digit_count(number: u64) -> usize
 }
 
 // Puts a number in decimal; its digits are stored from the last to the first, two a turn.
-fn put_number(number: u64, out: &mut [u8], at: usize) -> usize
+pub fn put_number(number: u64, out: &mut [u8], at: usize) -> usize
     requires { at + length (decimal number) ≤ length out.old }
     ensures value { result ≡ at + length (decimal number) }
     ensures out_after { out.new ≡ sets out.old at (decimal number) }

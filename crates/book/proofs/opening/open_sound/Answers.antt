@@ -1,0 +1,38 @@
+-- `book::opening::open_sound` meets its contract: the number decides between the refusal and the appended category.
+-- Assumes nothing.
+use mathlib.Core.List.{[]}
+use mathlib.Core.Path.{sym, ◌∙◌}
+use borrow.Author.Tests.{leb-false}
+use Rattle.book_words.specs.Book.{most_categories}
+use Rattle.book.specs.Calls.{open_reply, open_book}
+use Rattle.book_words.proofs.SoundTests.{sound-counted}
+use Rattle.book.proofs.AcceptedCalls.{opened}
+use Rattle.book.proofs.TestsAsGrounds.{call-refused, call-accepted}
+use Rattle.book.proofs.opening.open_sound.Goals as goal
+
+pub returns-then-refusal-ne0-clause-value : goal.returns-then-refusal-ne0-clause-value
+unfolding open_reply open_book
+returns-then-refusal-ne0-clause-value c =
+    (call-refused _ [] {old = []} c.refusal_alone.ensures c.refusal_number-refusal.ensures c.if-refusal-ne0.true).0
+
+pub returns-then-refusal-ne0-clause-book_after : goal.returns-then-refusal-ne0-clause-book_after
+unfolding open_reply open_book
+returns-then-refusal-ne0-clause-book_after c =
+    (call-refused 0 _ c.refusal_alone.ensures c.refusal_number-refusal.ensures c.if-refusal-ne0.true).1
+
+pub add_category-requires : goal.add_category-requires
+add_category-requires c =
+    let none = opened c.args.book.now c.args.kind (sym c.refusal_number-refusal.ensures ∙ c.if-refusal-ne0.false) in
+    ((sound-counted c.args.book.now c.requires).long, leb-false most_categories _ (none 8))
+
+pub returns-clause-value : goal.returns-clause-value
+unfolding open_reply open_book
+returns-clause-value c =
+    (
+    call-accepted _ [] c.refusal_number-refusal.ensures c.if-refusal-ne0.false (c.add_category.ensures.value, c.add_category.ensures.book_after)).0
+
+pub returns-clause-book_after : goal.returns-clause-book_after
+unfolding open_reply open_book
+returns-clause-book_after c =
+    (
+    call-accepted _ _ c.refusal_number-refusal.ensures c.if-refusal-ne0.false (c.add_category.ensures.value, c.add_category.ensures.book_after)).1
