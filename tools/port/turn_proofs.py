@@ -25,6 +25,12 @@ def norm(name):
     return name.replace("-", "_")
 
 
+def same(a, b):
+    """Whether two names of a step are one: the kit's script spelled some of them as words of the library."""
+    a, b = norm(a).lower(), norm(b).lower()
+    return a == b or a == b + "_lem"
+
+
 # ---- declarations
 
 
@@ -162,7 +168,7 @@ class Function:
                 return Value("c.requires", ctx=("clauses", pre["fields"], 0) if pre else None)
             # the step itself, or else the nearest of that name on the way to the goal
             path = self.above(self.at) if self.at is not None and v.place in self.above(self.at) else self.above(v.place)
-            near = [(abs(path.index(v.place) - k), i) for k, i in enumerate(path) if norm(self.n["places"][i][2][0]) == norm(f)]
+            near = [(abs(path.index(v.place) - k), i) for k, i in enumerate(path) if same(f, self.n["places"][i][2][0])]
             if near:
                 i = min(near)[1]
                 arm = self.n["arms"][i]
@@ -346,11 +352,11 @@ class Turner:
                 while after < len(nodes) and nodes[after][0] == "text" and not nodes[after][1].strip():
                     after += 1
                 return after, ""
-            env.pop(name, None)
+            env[name] = Value(name)
             said = f"let {name} = {v.text} in"
             return after, said
         said = "let " + name + self.text(typed, env) + "=" + self.text(nodes[eq + 1:k], env) + "in"
-        env.pop(name, None)
+        env[name] = Value(name)
         return after, said
 
     def helper(self, name):
@@ -427,6 +433,10 @@ def components(nodes, n):
         inner = [x for x in nodes if not (x[0] == "text" and not x[1].strip())]
         if n == 1:
             return parts + [nodes]
+        if len(inner) == 3 and inner[0] == ("path", "rw", []):
+            each = components([inner[2]], n)
+            space = ("text", " ")
+            return parts + [[inner[0], space, inner[1], space, ("group", "(", p, [])] for p in each]
         is_pair = len(inner) == 1 and inner[0][:2] == ("group", "(") and not inner[0][3] and ("text", ",") in inner[0][2]
         if not is_pair:
             if not inner or (inner[0][0] == "path" and not inner[0][2] and inner[0][1] in TACTICS):
