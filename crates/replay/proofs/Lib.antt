@@ -2,7 +2,6 @@
 -- the waiting bytes after a store, and after a text
 mod Putting
 -- a number's digits
-mod Decimals
 -- which bits spell a NaN
 mod NanBits
 -- what operations do

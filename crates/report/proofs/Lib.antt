@@ -2,7 +2,7 @@
 -- bytes stored one after the other
 mod Stores
 -- a number's digits
-mod Decimals
+pub mod Decimals
 -- the words of the index
 mod IndexWords
 -- chains that are met
