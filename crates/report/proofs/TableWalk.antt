@@ -12,7 +12,7 @@ use lib.Dec.{ltb, eqb}
 use lib.ListN.{length, replicate, length-replicate, get_or-replicate, get_or-eq_default}
 use lib.Seq.{sets}
 use Rattle.apportion.specs.Places.{at, one_if}
-use Rattle.apportion.proofs.Sums.{order, below_or_not, sum-cong, sum-zero, sum-some}
+use Rattle.apportion.proofs.Sums.{order, below_or_not, sum-cong, sum-zero}
 use Rattle.book.specs.Inner.Chains.{of_chains}
 use Rattle.book.specs.Statements.{of_chain}
 use Rattle.book.specs.Walk.{held_after, nothing}

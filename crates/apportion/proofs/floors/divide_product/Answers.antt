@@ -1,4 +1,3 @@
-use mathlib.Core.Logic.{⊎_elim}
 use Prim.Native.Nat.{◌^◌, ◌≤◌, ◌<◌}
 use native.Mathlib.Omega.{arith}
 use Rattle.apportion.proofs.Powers.{bit-small, adding-bit, adding-skip, adding-take, adding-done}

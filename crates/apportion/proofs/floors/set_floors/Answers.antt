@@ -1,5 +1,5 @@
 use mathlib.Core.Path.{◌≡◌}
-use Prim.Native.Nat.{◌*◌, ◌/◌, ◌%◌, ◌-◌}
+use Prim.Native.Nat.{◌*◌, ◌/◌, ◌%◌}
 use native.Mathlib.Omega.{arith}
 use Rattle.apportion.specs.Places.{at, sum_of}
 use Rattle.apportion.specs.Inner.Products.{Powers}

@@ -1,4 +1,4 @@
-use Prim.Native.Nat.{◌-◌, ◌<◌}
+use Prim.Native.Nat.{◌<◌}
 use native.Mathlib.Omega.{arith}
 use Rattle.apportion.proofs.Powers.{bit-small, making-next, making-done}
 use Rattle.apportion.proofs.floors.set_powers.Goals as goal

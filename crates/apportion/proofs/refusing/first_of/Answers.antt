@@ -1,5 +1,4 @@
 use mathlib.Core.Logic.{inr}
-use Prim.Native.Nat.{◌-◌}
 use native.Mathlib.Omega.{arith}
 use Rattle.apportion.proofs.Grounds.{passing-next, passing-end}
 use Rattle.apportion.proofs.refusing.first_of.Goals as goal

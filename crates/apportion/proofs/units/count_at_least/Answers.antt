@@ -1,8 +1,6 @@
 use mathlib.Core.Path.{◌≡◌}
-use Prim.Native.Nat.{◌-◌}
 use native.Mathlib.Omega.{arith}
 use lib.ListN.{length}
-use Rattle.apportion.specs.Places.{at}
 use Rattle.apportion.specs.Inner.Units.{count_at_least}
 use Rattle.apportion.proofs.units.count_at_least.Goals as goal
 

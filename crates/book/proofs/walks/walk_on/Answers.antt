@@ -1,12 +1,10 @@
 -- `book::walks::walk_on` meets its contract: the element that was read is the next, and what it adds fits. Assumes nothing.
-use mathlib.Core.Bool.{true, not}
-use mathlib.Core.List.{List}
+use mathlib.Core.Bool.{not}
 use mathlib.Core.Path.{◌≡◌, ◌∙◌, refl, ap}
-use Prim.Native.Nat.{ℕ, ◌+◌, ◌≤◌, ◌<◌}
+use Prim.Native.Nat.{ℕ, ◌+◌, ◌≤◌}
 use native.Mathlib.Omega.{arith}
 use Rattle.apportion.specs.Places.{one_if}
-use Rattle.book_words.specs.Book.{element_at, elements, most_elements}
-use Rattle.book_words.specs.Soundness.{sound}
+use Rattle.book_words.specs.Book.{element_at, most_elements}
 use Rattle.book_words.specs.Totals.{most_emissions}
 use Rattle.book_words.specs.declared.records.Element.{Element}
 use Rattle.book.specs.Inner.Chains.{of_chains}

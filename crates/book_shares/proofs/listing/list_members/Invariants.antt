@@ -5,7 +5,6 @@ use mathlib.Core.Path.{◌≡◌}
 use Prim.Native.Nat.{◌≤◌, ◌-◌, ℕ}
 use lib.ListN.{length}
 use Rattle.apportion.specs.Places.{kept_below}
-use Rattle.book_words.specs.Book.{elements}
 use Rattle.book_shares.specs.Inner.Members.{is_member, starting_with}
 use Rattle.book_shares.proofs.listing.list_members.Given as goal
 

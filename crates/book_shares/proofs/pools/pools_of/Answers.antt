@@ -1,5 +1,4 @@
 use mathlib.Core.Path.{◌∙◌, ap}
-use Prim.Native.Nat.{◌-◌}
 use native.Mathlib.Omega.{arith}
 use Rattle.book_shares.specs.Inner.Steps.{pools_with}
 use Rattle.book_words.proofs.SoundTests.{sound-counted}

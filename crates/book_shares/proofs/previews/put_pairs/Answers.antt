@@ -1,6 +1,6 @@
 use mathlib.Core.List.{◌++◌}
 use mathlib.Core.Path.{◌≡◌, ap, ◌∙◌}
-use Prim.Native.Nat.{ℕ, ◌-◌, ◌*◌}
+use Prim.Native.Nat.{ℕ, ◌*◌}
 use native.Mathlib.Omega.{arith}
 use lib.ListN.{drop}
 use Rattle.book_words.specs.Book.{most_elements}

@@ -1,5 +1,4 @@
 use mathlib.Core.Path.{◌∙◌, ap}
-use Prim.Native.Nat.{◌-◌}
 use native.Mathlib.Omega.{arith}
 use Rattle.book_shares.specs.declared.weights.Measure.TheVariants.{Activity}
 use Rattle.book_shares.specs.Inner.Members.{measure_of, weights_at}

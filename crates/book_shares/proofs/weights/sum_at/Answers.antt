@@ -1,5 +1,4 @@
 use mathlib.Core.Path.{◌∙◌}
-use Prim.Native.Nat.{◌-◌}
 use Rattle.book_shares.specs.Inner.Members.{sum_at}
 use Rattle.book_words.proofs.SumLoop.{adding-done}
 use Rattle.book_words.proofs.CappedSums.{capped_small}

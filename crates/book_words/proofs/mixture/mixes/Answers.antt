@@ -1,6 +1,5 @@
-use mathlib.Core.Bool.{Bool, true, not, beq}
+use mathlib.Core.Bool.{Bool, not, beq}
 use mathlib.Core.Path.{◌≡◌, sym, ap, ap₂, ◌∙◌}
-use Prim.Native.Nat.{◌-◌}
 use native.Mathlib.Omega.{arith}
 use borrow.Author.Tests.{not-true, not-false}
 use Rattle.book_words.specs.Book.{elements}

@@ -1,6 +1,6 @@
 use mathlib.Core.Bool.{true, not}
 use mathlib.Core.Path.{◌≡◌, sym, ap, ◌∙◌}
-use Prim.Native.Nat.{◌-◌, ◌≤◌, ◌<◌}
+use Prim.Native.Nat.{◌≤◌, ◌<◌}
 use native.Mathlib.Omega.{arith}
 use Rattle.book_words.specs.Book.{elements, element_at, most_categories}
 use Rattle.book_words.specs.Inner.Steps.{seen_places}

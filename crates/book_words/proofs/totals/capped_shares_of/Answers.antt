@@ -1,5 +1,4 @@
 use mathlib.Core.Path.{◌≡◌}
-use Prim.Native.Nat.{◌-◌}
 use native.Mathlib.Omega.{arith}
 use Rattle.book_words.specs.Book.{elements}
 use Rattle.book_words.specs.Totals.{shares_of}

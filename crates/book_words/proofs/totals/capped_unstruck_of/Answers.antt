@@ -1,5 +1,4 @@
 use mathlib.Core.Path.{◌≡◌}
-use Prim.Native.Nat.{◌-◌}
 use native.Mathlib.Omega.{arith}
 use Rattle.book_words.specs.Book.{entries}
 use Rattle.book_words.specs.Totals.{unstruck_of}

@@ -1,4 +1,3 @@
-use Prim.Native.Nat.{◌-◌}
 use Rattle.replay.specs.Waiting.{waiting_in}
 use Rattle.replay.proofs.Putting.{print-first, print-next, print-end}
 use Rattle.replay.proofs.output.print.Goals as goal

@@ -1,6 +1,6 @@
 -- `report::index::find_or_insert` meets its contract: the chain has a word, or it gets one. Assumes nothing.
 use native.Mathlib.Omega.{arith}
-use mathlib.Core.Logic.{inl, inr, ⊎_elim}
+use mathlib.Core.Logic.{inl, inr}
 use mathlib.Core.Path.{sym, ◌∙◌}
 use Rattle.report.proofs.IndexWords.{below-most, found-listed, found-new}
 use Rattle.report.proofs.index.find_or_insert.Goals as goal

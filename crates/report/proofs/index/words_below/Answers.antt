@@ -1,4 +1,3 @@
-use Prim.Native.Nat.{◌-◌}
 use Rattle.report.proofs.IndexWords.{halved-end}
 use Rattle.report.proofs.index.words_below.Goals as goal
 

@@ -1,4 +1,3 @@
-use Prim.Native.Nat.{◌-◌}
 use native.Mathlib.Omega.{arith}
 use Rattle.report.proofs.RowLoop.{rows-room, rows_next}
 use Rattle.report.proofs.sheets.put_lines.Goals as goal
