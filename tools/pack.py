@@ -2,7 +2,7 @@
 """Packs a book that is written as text into the file form of document 01.
 
     python3 tools/pack.py < book.txt > book.file
-    python3 tools/pack.py book.txt | target/bin/quaymeter
+    python3 tools/pack.py book.txt | crates/quaymeter/out/quaymeter
 
 `tools/quay sheet book.txt` does both, and tells a refusal at its line.
 

@@ -1,7 +1,7 @@
 #!/usr/bin/env python3
 """Packs calls that are written as text into records for the program `replay`.
 
-    python3 tools/records.py < calls.txt | target/bin/replay
+    python3 tools/records.py < calls.txt | crates/replay/out/replay
 
 A line is a call: the operation and its arguments, decimal numbers below
 2^64 with spaces between, at most seven arguments. Arguments that are left

@@ -4,7 +4,7 @@ calculation.
 
     python3 tools/checks/check_quay.py [SEED]
 
-It wants the programs that `rt check` builds. The examples, random books, the
+It wants the programs that `rt ci` builds. The examples, random books, the
 same with damage, random lists of calls, lists that preview and close random
 books and random rows of a workbook are given to each command; status, output
 and messages have to be the same, and no difference may be told. The seed makes

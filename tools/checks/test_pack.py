@@ -513,8 +513,8 @@ def commands():
     office = ("it is a document of an office program; save it there as plain "
               "text")
     for start, words in (
-        (EXAMPLE, "it is packed already; target/bin/quaymeter reads it from "
-                  "its standard input"),
+        (EXAMPLE, "it is packed already; crates/quaymeter/out/quaymeter "
+                  "reads it from its standard input"),
         (b"PK\x03\x04 ", office), (b"\xd0\xcf\x11\xe0 ", office),
         (b"{\\rtf1", "it is a text with formats (RTF); save it as plain text"),
         (b"%PDF-1.4", "it is a PDF; a book is plain text"),

@@ -1297,10 +1297,10 @@ def unavailable():
     # Programs that end well, badly, or are none.
     with tempfile.TemporaryDirectory() as folder, \
             mock.patch("command.programs.ROOT", folder):
-        path = os.path.join(folder, "target", "bin", "quaymeter")
-        os.makedirs(os.path.dirname(path))
+        path = os.path.join(folder, "crates", "quaymeter", "out", "quaymeter")
         for program, name in zip(programs.PROVED, programs.Programs._fields):
-            other = os.path.join(os.path.dirname(path), name)
+            other = os.path.join(folder, "crates", name, "out", name)
+            os.makedirs(os.path.dirname(other))
             with open(other, "w") as file:
                 file.write("#!/bin/sh\nprintf %s\ncat\n" % name)
             os.chmod(other, 0o755)
@@ -1320,8 +1320,8 @@ def unavailable():
         status, output, told = run("sheet", DOCUMENT,
                                    programs=programs.PROVED)
         check((status, output, told) == (
-            2, "", "target/bin/quaymeter is not built yet: `rt check` in %s "
-            "proves and builds everything, which takes about five minutes\n"
+            2, "", "crates/quaymeter/out/quaymeter is not built yet: `rt ci` "
+            "in %s proves and builds everything\n"
             % os.path.join(ROOT, "tools")), "not built", told)
 
 

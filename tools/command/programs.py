@@ -8,8 +8,6 @@ from command.fields import shown
 
 ROOT = os.path.dirname(os.path.dirname(os.path.dirname(
     os.path.abspath(__file__))))
-BUILT = os.path.join("target", "bin")
-
 # quaymeter: from the bytes of a file to its sheet; replay: from a list of
 # records to its answers.
 Programs = namedtuple("Programs", "quaymeter replay")
@@ -23,15 +21,20 @@ class Differs(Exception):
     """What the programs say and what is reckoned here are not the same."""
 
 
+def place(name):
+    """Where `rt ci` and `rt run` leave the built program of that name, from
+    the root."""
+    return os.path.join("crates", name, "out", name)
+
+
 def built(name):
     """The built program of that name."""
     def run(data):
-        path = os.path.join(ROOT, BUILT, name)
+        path = os.path.join(ROOT, place(name))
         if not os.path.exists(path):
             raise Unavailable(
-                "%s is not built yet: `rt check` in %s proves and builds "
-                "everything, which takes about five minutes"
-                % (os.path.join(BUILT, name), ROOT))
+                "%s is not built yet: `rt ci` in %s proves and builds "
+                "everything" % (place(name), ROOT))
         try:
             done = subprocess.run([path], input=data, stdout=subprocess.PIPE,
                                   stderr=subprocess.PIPE)

@@ -18,8 +18,9 @@ class NoFile(Unreadable):
 # How files begin that are taken for a text by mistake, and what is said of
 # them, with the form that is wanted.
 NO_TEXTS = (
-    (b"\x03\x37\0\0", "it is packed already; target/bin/quaymeter reads it "
-                      "from its standard input"),
+    (b"\x03\x37\0\0", "it is packed already; "
+                      "crates/quaymeter/out/quaymeter reads it from its "
+                      "standard input"),
     (b"PK\x03\x04", "it is a document of an office program; save it there as "
                     "{form}"),
     (b"\xd0\xcf\x11\xe0", "it is a document of an office program; save it "

@@ -533,6 +533,9 @@ def answer(d, fn, helpers, places):
         type_text, body_text, unf = t.said[h]
         lets += bare(f"let {norm(h)} : {type_text} = {body_text} in\n    ", t.used)
         unfolding += [u for u in unf if u not in unfolding]
+    more = [a for a in args[1:] if a != "κs"]
+    if more:
+        lets = "λ " + " ".join(more) + ". " + lets
     if parted:
         parted = {f: lets + (parted[0].strip() + "\n    " if parted[0].strip() else "") + x for f, x in zip(asked, parted[1])}
     return new, d.comment, unfolding, (lets + said.strip()), body, parted
