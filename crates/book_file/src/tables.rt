@@ -99,7 +99,8 @@ fn open(book: &mut [u64], number: u64, category: CategoryRecord) -> Load
     ensures { loading_of result book.new ≡ made book.old (opening number category) }
 {
     let place = Place::Category(number);
-    if category.flag > 1 {
+    let misflagged = category.flag > 1;
+    if misflagged {
         return Load::Stopped(13, place);
     }
     let reply = book::open_sound(book, category.kind);

@@ -20,7 +20,8 @@ pub fn preview_sound(book: &[u64], pairs: &mut [u64], category: u64) -> u64
     ensures value { result ≡ preview_refusal book.now pairs.old category }
     ensures pairs_after { pairs.new ≡ preview_pairs book.now pairs.old category }
 {
-    if pairs.len() < PAIR_WORDS {
+    let short = pairs.len() < PAIR_WORDS;
+    if short {
         return 17;
     }
     let mut places = [0usize; 256];

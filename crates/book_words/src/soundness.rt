@@ -84,6 +84,7 @@ pub fn numbered_element(book: &[u64], number: u64) -> Element
 }
 
 // The length, word 0 and the counts.
+#[tactic(auto, unfolding(crate::specs::Soundness::header_fine))]
 fn header_fine(book: &[u64]) -> bool
     ensures { result ≡ header_fine book.now }
 {

@@ -29,7 +29,8 @@ pub fn convert_double(x: f64, limit: u32) -> Conversion
 fn convert_bits(bits: u64, limit: u32) -> Conversion
     ensures { result ≡ conversion_of limit (Number (of_bits binary64 bits)) }
 {
-    if bits > SIGN {
+    let negative = bits > SIGN;
+    if negative {
         return Conversion::Refused(15);
     }
     let field = bits % SIGN / LEADING;

@@ -7,12 +7,12 @@ use Rattle.book_file.specs.Loading.{opening}
 use Rattle.book_file.proofs.TaskLoop.{made-broken, call-made}
 use Rattle.book_file.proofs.tables.open.Goals as goal
 
-pub returns-then-category-gt1 : goal.returns-then-category-gt1
-returns-then-category-gt1 c =
-    sym (made-broken c.args.book.now (opening c.args.number c.args.category) (lt-ltb 1 c.args.category.flag c.if-category-gt1.true))
+pub returns-then-misflagged : goal.returns-then-misflagged
+returns-then-misflagged c =
+    sym (made-broken c.args.book.now (opening c.args.number c.args.category) (lt-ltb 1 c.args.category.flag c.if-misflagged.true))
 
 pub returns : goal.returns
 returns c =
-    call-made c.args.book.now (opening c.args.number c.args.category) (le-ltb 1 c.args.category.flag c.if-category-gt1.false)
+    call-made c.args.book.now (opening c.args.number c.args.category) (le-ltb 1 c.args.category.flag c.if-misflagged.false)
     (ap (λ (r : Reply). r.refusal) c.open_sound-reply.ensures.value, c.open_sound-reply.ensures.book_after)
     c.answer_at.ensures

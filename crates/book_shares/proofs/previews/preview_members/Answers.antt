@@ -23,15 +23,15 @@ returns-then-refusal-ne0-clause-pairs_after c =
 
 pub hand_out_to-requires-clause-by_index : goal.hand_out_to-requires-clause-by_index
 hand_out_to-requires-clause-by_index c =
-    let none : close_refusal c.args.book.now c.args.category ≡ 0 = sym c.work_out-refusal.ensures.value ∙ c.if-refusal-ne0.false in
+    let none : close_refusal c.args.book.now c.args.category ≡ 0 = omega (arith, c.work_out-refusal.ensures.value) in
     in_pairs c.requires.to_work_out none c.work_out-refusal.ensures.operation_after c.work_out-refusal.ensures.provision_after c.put_pairs.new.pairs (omega (arith, c.requires.pair_words_in_bounds, c.put_pairs.auto.pairs))
 
 pub returns-clause-value : goal.returns-clause-value
 unfolding preview_pairs
 returns-clause-value c =
     let number : c.work_out-refusal.result ≡ preview_refusal c.args.book.now c.args.pairs.now c.args.category = c.work_out-refusal.ensures.value ∙ sym (preview-as-close c.args.book.now c.args.pairs.now c.args.category c.requires.pair_words_in_bounds) in
-    let none : close_refusal c.args.book.now c.args.category ≡ 0 = sym c.work_out-refusal.ensures.value ∙ c.if-refusal-ne0.false in
-    let accepted : preview_refusal c.args.book.now c.args.pairs.now c.args.category ≡ 0 = sym number ∙ c.if-refusal-ne0.false in
+    let none : close_refusal c.args.book.now c.args.category ≡ 0 = omega (arith, c.work_out-refusal.ensures.value) in
+    let accepted : preview_refusal c.args.book.now c.args.pairs.now c.args.category ≡ 0 = omega (arith, number) in
     let written =
     pairs-written c.requires.to_work_out none c.work_out-refusal.ensures.operation_after c.work_out-refusal.ensures.provision_after c.args.pairs.now c.put_pairs.ensures c.hand_out_to.ensures in
     sym accepted
@@ -40,8 +40,8 @@ pub returns-clause-pairs_after : goal.returns-clause-pairs_after
 unfolding preview_pairs
 returns-clause-pairs_after c =
     let number : c.work_out-refusal.result ≡ preview_refusal c.args.book.now c.args.pairs.now c.args.category = c.work_out-refusal.ensures.value ∙ sym (preview-as-close c.args.book.now c.args.pairs.now c.args.category c.requires.pair_words_in_bounds) in
-    let none : close_refusal c.args.book.now c.args.category ≡ 0 = sym c.work_out-refusal.ensures.value ∙ c.if-refusal-ne0.false in
-    let accepted : preview_refusal c.args.book.now c.args.pairs.now c.args.category ≡ 0 = sym number ∙ c.if-refusal-ne0.false in
+    let none : close_refusal c.args.book.now c.args.category ≡ 0 = omega (arith, c.work_out-refusal.ensures.value) in
+    let accepted : preview_refusal c.args.book.now c.args.pairs.now c.args.category ≡ 0 = omega (arith, number) in
     let written =
     pairs-written c.requires.to_work_out none c.work_out-refusal.ensures.operation_after c.work_out-refusal.ensures.provision_after c.args.pairs.now c.put_pairs.ensures c.hand_out_to.ensures in
     written ∙ sym (accepted-new _ _ c.args.pairs.now accepted)

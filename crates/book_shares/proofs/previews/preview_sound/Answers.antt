@@ -8,18 +8,18 @@ use Rattle.book_shares.proofs.Laws.{preview-short, preview-refused}
 use Rattle.book_shares.proofs.WorkedOut.{to-work-out}
 use Rattle.book_shares.proofs.previews.preview_sound.Goals as goal
 
-pub returns-then-pairs-lt-PAIR_WORDS-clause-value : goal.returns-then-pairs-lt-PAIR_WORDS-clause-value
-returns-then-pairs-lt-PAIR_WORDS-clause-value c =
+pub returns-then-short-clause-value : goal.returns-then-short-clause-value
+returns-then-short-clause-value c =
     let ws = c.args.book.now in
     let seventeen : preview_refusal ws c.args.pairs.now c.args.category ≡ 17 =
-    preview-short ws c.args.pairs.now c.args.category c.if-pairs-lt-PAIR_WORDS.true ∙ rw c.requires in
+    preview-short ws c.args.pairs.now c.args.category c.if-short.true ∙ rw c.requires in
     sym seventeen
 
-pub returns-then-pairs-lt-PAIR_WORDS-clause-pairs_after : goal.returns-then-pairs-lt-PAIR_WORDS-clause-pairs_after
-returns-then-pairs-lt-PAIR_WORDS-clause-pairs_after c =
+pub returns-then-short-clause-pairs_after : goal.returns-then-short-clause-pairs_after
+returns-then-short-clause-pairs_after c =
     let ws = c.args.book.now in
     let seventeen : preview_refusal ws c.args.pairs.now c.args.category ≡ 17 =
-    preview-short ws c.args.pairs.now c.args.category c.if-pairs-lt-PAIR_WORDS.true ∙ rw c.requires in
+    preview-short ws c.args.pairs.now c.args.category c.if-short.true ∙ rw c.requires in
     sym (preview-refused ws c.args.pairs.now c.args.category (λ z. omega (arith, seventeen)))
 
 pub list_members-count-requires-clause-book_in_bounds : goal.list_members-count-requires-clause-book_in_bounds
