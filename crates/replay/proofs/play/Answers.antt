@@ -33,8 +33,6 @@ returns-else-state-clause-result_after c =
     let more : 0 < length left = rw length-drop (omega arith) in
     let done : after ≡ handled left (counted there) = let all = le_of_eq (length-drop c.loop-at.at c.args.chunk.now) in
     c.perform-state.ensures ∙ (rw (take_all _ left all) at (c.receive-received.ensures c.loop-at.memory c.loop-at.buffer)) in
-    let few : c.perform-state.result.passed + (length c.args.chunk.now - (c.loop-at.at + 64))
-    ≤ c.args.state.passed + length c.args.chunk.now = omega (arith, c.loop-at.invariant.1, one-passed left there after more done, c.loop-at-test.true) in
     λ ok.
     let ended = unfailed-bad c.perform-state.result.good c.perform-state.result.output.ok c.if-state.false ok in
     replay-stop left there after more done ended ∙ c.loop-at.invariant.0

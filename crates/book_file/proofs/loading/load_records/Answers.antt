@@ -3,7 +3,9 @@
 use mathlib.Core.Bool.{true}
 use mathlib.Core.List.{List}
 use mathlib.Core.Path.{◌≡◌, ap, ◌∙◌}
+use Prim.Native.Nat.{ℕ}
 use Rattle.book_words.specs.Soundness.{sound}
+use Rattle.book_file.specs.declared.answers.Load.{Load}
 use Rattle.book_file.specs.declared.answers.Load.TheVariants.{Loaded}
 use Rattle.book_file.specs.declared.tables.Table.{Table}
 use Rattle.book_file.specs.declared.tables.Table.TheVariants.{Categories, Entries, Elements, Closings}
@@ -11,29 +13,29 @@ use Rattle.book_file.specs.Loading.{Task, tasks_in, tasks_of, Loading, loading_o
 use Rattle.book_file.proofs.TaskLoop.{carried-sound, carried-tables}
 use Rattle.book_file.proofs.loading.load_records.Goals as goal
 
+-- a book that tasks leave is sound, where they began with a sound one
+fine_next : (loading : Loading) (tasks : List Task) {answer : Load} {ws : List ℕ} → sound loading.book ≡ true → loading_of answer ws ≡ carried_on loading tasks
+    → sound ws ≡ true
+fine_next loading tasks fine is = ap (λ (l : Loading). sound l.book) is ∙ carried-sound loading tasks fine
+
 pub load_table-posted-requires-clause-book_value : goal.load_table-posted-requires-clause-book_value
 load_table-posted-requires-clause-book_value c =
-    let fine_1 : sound c.load_table-opened.new.book ≡ true = ap (λ (l : Loading). sound l.book) c.load_table-opened.ensures.book_after
-    ∙ carried-sound (loading_of Loaded c.args.book.now) (tasks_in c.args.file.now Categories) c.requires in
-    fine_1
+    fine_next (loading_of Loaded c.args.book.now) (tasks_in c.args.file.now Categories) c.requires c.load_table-opened.ensures.book_after
 
 pub load_table-enrolled-requires-clause-book_value : goal.load_table-enrolled-requires-clause-book_value
 load_table-enrolled-requires-clause-book_value c =
-    let fine_1 : sound c.load_table-opened.new.book ≡ true = ap (λ (l : Loading). sound l.book) c.load_table-opened.ensures.book_after
-    ∙ carried-sound (loading_of Loaded c.args.book.now) (tasks_in c.args.file.now Categories) c.requires in
-    let fine_2 : sound c.load_table-posted.new.book ≡ true = ap (λ (l : Loading). sound l.book) c.load_table-posted.ensures.book_after
-    ∙ carried-sound (loading_of c.load_table-opened.result.answer c.load_table-opened.new.book) (tasks_in c.args.file.now Entries) fine_1 in
-    fine_2
+    let fine_1 = fine_next (loading_of Loaded c.args.book.now) (tasks_in c.args.file.now Categories) c.requires c.load_table-opened.ensures.book_after in
+    fine_next (loading_of c.load_table-opened.result.answer c.load_table-opened.new.book) (tasks_in c.args.file.now Entries) fine_1
+    c.load_table-posted.ensures.book_after
 
 pub load_table-closed-requires-clause-book_value : goal.load_table-closed-requires-clause-book_value
 load_table-closed-requires-clause-book_value c =
-    let fine_1 : sound c.load_table-opened.new.book ≡ true = ap (λ (l : Loading). sound l.book) c.load_table-opened.ensures.book_after
-    ∙ carried-sound (loading_of Loaded c.args.book.now) (tasks_in c.args.file.now Categories) c.requires in
-    let fine_2 : sound c.load_table-posted.new.book ≡ true = ap (λ (l : Loading). sound l.book) c.load_table-posted.ensures.book_after
-    ∙ carried-sound (loading_of c.load_table-opened.result.answer c.load_table-opened.new.book) (tasks_in c.args.file.now Entries) fine_1 in
-    let fine_3 : sound c.load_table-enrolled.new.book ≡ true = ap (λ (l : Loading). sound l.book) c.load_table-enrolled.ensures.book_after
-    ∙ carried-sound (loading_of c.load_table-posted.result.answer c.load_table-posted.new.book) (tasks_in c.args.file.now Elements) fine_2 in
-    fine_3
+    let fine_1 = fine_next (loading_of Loaded c.args.book.now) (tasks_in c.args.file.now Categories) c.requires c.load_table-opened.ensures.book_after in
+    let fine_2 =
+    fine_next (loading_of c.load_table-opened.result.answer c.load_table-opened.new.book) (tasks_in c.args.file.now Entries) fine_1
+    c.load_table-posted.ensures.book_after in
+    fine_next (loading_of c.load_table-posted.result.answer c.load_table-posted.new.book) (tasks_in c.args.file.now Elements) fine_2
+    c.load_table-enrolled.ensures.book_after
 
 pub returns : goal.returns
 unfolding tasks_of

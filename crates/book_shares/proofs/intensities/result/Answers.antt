@@ -5,7 +5,6 @@ use Rattle.book_words.specs.Book.{category_of}
 use Rattle.book_words.specs.declared.records.Category.{Category}
 use Rattle.book_shares.specs.declared.pools.Pools.{Pools}
 use Rattle.book_shares.specs.Inner.Steps.{scale_tens}
-use Rattle.book_shares.specs.Inner.Members.{Listed}
 use Rattle.book_words.proofs.NumberedRecords.{category-there}
 use Rattle.book_shares.proofs.ClosingShares.{parts_of}
 use Rattle.book_shares.proofs.SumBounds.{pool-limited}
@@ -15,14 +14,12 @@ use Rattle.book_shares.proofs.intensities.result.Goals as goal
 
 pub divide_all-parts-requires-clause-all_le_most_pool : goal.divide_all-parts-requires-clause-all_le_most_pool
 divide_all-parts-requires-clause-all_le_most_pool c =
-    let listed : Listed c.args.book.now c.args.members.now = record { category = c.args.category; are = c.requires.members_value } in
     let all = ap (λ (q : Pools). q.all) c.pools_of-pools.ensures in
     let limit = pool-limited c.args.book.now c.requires.allowed.fine c.args.category 0 c.args.side in
     (omega (arith, all, limit), all_there c.requires.allowed c.requires.members_value)
 
 pub per_activity-requires-clause-recipients_nonzero : goal.per_activity-requires-clause-recipients_nonzero
 per_activity-requires-clause-recipients_nonzero c =
-    let listed : Listed c.args.book.now c.args.members.now = record { category = c.args.category; are = c.requires.members_value } in
     passengers-there c.requires.allowed c.requires.members_value c.if-code-eq100.true
 
 pub returns-then-code-eq100 : goal.returns-then-code-eq100
@@ -34,7 +31,6 @@ returns-then-code-eq100 c =
 
 pub per_activity-freight-requires-clause-recipients_nonzero : goal.per_activity-freight-requires-clause-recipients_nonzero
 per_activity-freight-requires-clause-recipients_nonzero c =
-    let listed : Listed c.args.book.now c.args.members.now = record { category = c.args.category; are = c.requires.members_value } in
     freight-there c.requires.allowed c.requires.members_value c.if-code-eq100.false
 
 pub returns-then-code-eq0 : goal.returns-then-code-eq0
@@ -48,7 +44,6 @@ returns-then-code-eq0 c =
 
 pub per_activity-requires-2-clause-recipients_nonzero : goal.per_activity-requires-2-clause-recipients_nonzero
 per_activity-requires-2-clause-recipients_nonzero c =
-    let listed : Listed c.args.book.now c.args.members.now = record { category = c.args.category; are = c.requires.members_value } in
     group-there c.requires.allowed c.requires.members_value c.if-code-eq100.false c.if-code-eq0.false
 
 pub returns : goal.returns

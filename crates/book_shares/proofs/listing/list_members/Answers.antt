@@ -19,9 +19,6 @@ bounds-book-3 c =
 
 pub list_place-listed-requires-clause-book_length_in_bounds : goal.list_place-listed-requires-clause-book_length_in_bounds
 list_place-listed-requires-clause-book_length_in_bounds c =
-    let room : c.loop-place.listed < length c.loop-place.places = let few = kept-length (is_member c.args.book.now c.args.category) c.loop-place.place (λ p. p) in
-    let most = count_most c.loop-place.place (is_member c.args.book.now c.args.category) in
-    omega (arith, few, most, c.loop-place.invariant, c.loop-place-test.true, c.requires.book_in_bounds) in
     let counts = sound-counted c.args.book.now c.requires.book_value in
     (counts.long, omega (arith, counts, c.loop-place-test.true))
 
@@ -30,7 +27,6 @@ list_place-listed-requires-clause-listed_in_bounds c =
     let room : c.loop-place.listed < length c.loop-place.places = let few = kept-length (is_member c.args.book.now c.args.category) c.loop-place.place (λ p. p) in
     let most = count_most c.loop-place.place (is_member c.args.book.now c.args.category) in
     omega (arith, few, most, c.loop-place.invariant, c.loop-place-test.true, c.requires.book_in_bounds) in
-    let counts = sound-counted c.args.book.now c.requires.book_value in
     room
 
 pub loop-place-preserved : goal.loop-place-preserved

@@ -1,30 +1,25 @@
 -- `report::sheets::print_within` meets its contract. Assumes nothing.
-use Rattle.report.specs.Sheet.{sheet_text, sheet_room}
+use Rattle.report.specs.Sheet.{sheet_room}
 use Rattle.report.proofs.Lines.{sheet-fits}
-use Rattle.report.proofs.Stores.{Front, in-room}
+use Rattle.report.proofs.Stores.{in-room}
 use Rattle.report.proofs.sheets.print_within.Goals as goal
 
 pub slice_bounds-room-end : goal.slice_bounds-room-end
 slice_bounds-room-end c =
-    let written : Front (sheet_text c.args.book.now) c.write_sheet-count.new.out c.write_sheet-count.result = in-room sheet_room c.write_sheet-count.ensures.out_after c.write_sheet-count.ensures.value (sheet-fits _ c.requires) in
-    (written).inside
+    (in-room sheet_room c.write_sheet-count.ensures.out_after c.write_sheet-count.ensures.value (sheet-fits _ c.requires)).inside
 
 pub slice_bounds-print_text-end : goal.slice_bounds-print_text-end
 slice_bounds-print_text-end c =
-    let written : Front (sheet_text c.args.book.now) c.write_sheet-count.new.out c.write_sheet-count.result = in-room sheet_room c.write_sheet-count.ensures.out_after c.write_sheet-count.ensures.value (sheet-fits _ c.requires) in
-    (written).counted
+    (in-room sheet_room c.write_sheet-count.ensures.out_after c.write_sheet-count.ensures.value (sheet-fits _ c.requires)).counted
 
 pub returns-clause-value : goal.returns-clause-value
 returns-clause-value c =
-    let written : Front (sheet_text c.args.book.now) c.write_sheet-count.new.out c.write_sheet-count.result = in-room sheet_room c.write_sheet-count.ensures.out_after c.write_sheet-count.ensures.value (sheet-fits _ c.requires) in
-    rw (← (written).is_text) c.print_text.ensures.value
+    rw (← (in-room sheet_room c.write_sheet-count.ensures.out_after c.write_sheet-count.ensures.value (sheet-fits _ c.requires)).is_text) c.print_text.ensures.value
 
 pub returns-clause-result_value : goal.returns-clause-result_value
 returns-clause-result_value c =
-    let written : Front (sheet_text c.args.book.now) c.write_sheet-count.new.out c.write_sheet-count.result = in-room sheet_room c.write_sheet-count.ensures.out_after c.write_sheet-count.ensures.value (sheet-fits _ c.requires) in
-    rw (← (written).is_text) c.print_text.ensures.result_value
+    rw (← (in-room sheet_room c.write_sheet-count.ensures.out_after c.write_sheet-count.ensures.value (sheet-fits _ c.requires)).is_text) c.print_text.ensures.result_value
 
 pub returns-clause-out_after : goal.returns-clause-out_after
 returns-clause-out_after c =
-    let written : Front (sheet_text c.args.book.now) c.write_sheet-count.new.out c.write_sheet-count.result = in-room sheet_room c.write_sheet-count.ensures.out_after c.write_sheet-count.ensures.value (sheet-fits _ c.requires) in
-    rw (← (written).is_text) c.print_text.ensures.out_after
+    rw (← (in-room sheet_room c.write_sheet-count.ensures.out_after c.write_sheet-count.ensures.value (sheet-fits _ c.requires)).is_text) c.print_text.ensures.out_after

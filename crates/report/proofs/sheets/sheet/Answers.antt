@@ -22,5 +22,4 @@ returns-then-not-is_sound-clause-result_value c =
 pub returns-then-not-is_sound-clause-out_after : goal.returns-then-not-is_sound-clause-out_after
 returns-then-not-is_sound-clause-out_after c =
     let unsound = sym c.is_sound.ensures ∙ not-true c.is_sound.result (ap not c.if-not-is_sound.true) in
-    let answered = sym (sheet-refused c.args.book.now (length c.args.out.now) unsound) in
     sym (sheet-unprinted c.args.book.now c.args.out.now unsound)

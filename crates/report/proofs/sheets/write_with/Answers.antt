@@ -16,8 +16,6 @@ pub put_sheet-requires-clause-table_fits : goal.put_sheet-requires-clause-table_
 put_sheet-requires-clause-table_fits c =
     let words : List ℕ = c.collect-c.new.index in
     let held : List ℕ = c.collect-c.new.slots in
-    let is_sheet : table_text c.collect-c.result words held ≡ sheet_text c.args.book.now = ap (λ (all : Collected). table_text all words held) c.collect-c.ensures.value
-    ∙ table-text c.args.book.now c.requires.book_value.0 words held c.collect-c.ensures.table in
     let ws = c.args.book.now in
     let there : Room ws words held =
     record { index_room = omega (arith, c.requires.room.0, c.collect-c.auto.index); slot_room = omega (arith, c.requires.room.0, c.collect-c.auto.slots) } in
@@ -30,8 +28,6 @@ put_sheet-requires-clause-slots_in_bounds c =
     let is_sheet : table_text c.collect-c.result words held ≡ sheet_text c.args.book.now = ap (λ (all : Collected). table_text all words held) c.collect-c.ensures.value
     ∙ table-text c.args.book.now c.requires.book_value.0 words held c.collect-c.ensures.table in
     let ws = c.args.book.now in
-    let there : Room ws words held =
-    record { index_room = omega (arith, c.requires.room.0, c.collect-c.auto.index); slot_room = omega (arith, c.requires.room.0, c.collect-c.auto.slots) } in
     omega (arith, ap length is_sheet, sheet-fits ws c.requires.book_value.0, c.requires.book_value.1)
 
 pub returns-clause-value : goal.returns-clause-value
