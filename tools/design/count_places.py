@@ -1,0 +1,89 @@
+#!/usr/bin/env python3
+"""Counts, in the code of a commit or of the working tree, the places of the points of docs/DESIGN-PASS.md.
+
+  count_places.py [COMMIT] [--list]
+
+Each point has a few patterns over the lines of crates/*/src, or over whole functions. What they find is printed as a number,
+with --list each place too."""
+import re
+import subprocess
+import sys
+
+
+def sources(commit):
+    """The files of crates/*/src and their texts."""
+    if commit is None:
+        names = subprocess.run(["git", "ls-files", "crates/*/src/*.rt"], capture_output=True, text=True, check=True).stdout.split()
+        return {name: open(name).read() for name in names}
+    names = subprocess.run(["git", "ls-tree", "-r", "--name-only", commit, "crates"], capture_output=True, text=True, check=True).stdout.split()
+    names = [name for name in names if re.fullmatch(r"crates/\w+/src/.*\.rt", name)]
+    return {name: subprocess.run(["git", "show", f"{commit}:{name}"], capture_output=True, text=True, check=True).stdout for name in names}
+
+
+def lines(files, pattern):
+    """The lines that the pattern finds, without comments."""
+    found = []
+    for name, text in sorted(files.items()):
+        for number, line in enumerate(text.splitlines(), 1):
+            if not line.lstrip().startswith("//") and re.search(pattern, line):
+                found.append(f"{name}:{number}: {line.strip()}")
+    return found
+
+
+def functions(files):
+    """Each function: its file, its line, its name, and its text from `fn` to its end."""
+    for name, text in sorted(files.items()):
+        for match in re.finditer(r"^( *)(?:pub(?:\(\w+\))? )?(?:const |final )?(?:unsafe )?(?:extern \"C\" )?fn (\w+)", text, re.M):
+            end = re.compile(rf"^{match.group(1)}}}$|;\n", re.M).search(text, match.end())
+            yield name, text.count("\n", 0, match.start()) + 1, match.group(2), text[match.start() : end.end() if end else len(text)]
+
+
+def answering(files, result, clause):
+    """The functions with such a result, one of whose clauses has this pattern."""
+    found = []
+    for name, number, function, text in functions(files):
+        head = text.split("\n{\n")[0]
+        if re.search(result, head) and re.search(clause, head):
+            found.append(f"{name}:{number}: fn {function}")
+    return found
+
+
+POINTS = {
+    "1 refusal numbers answered": lambda f: answering(f, r"-> u64\b", r"ensures[^\n]*(refusal|first_of|first_number)"),
+    "1 refusal numbers in fields": lambda f: lines(f, r"\brefusal: u64,|Refused\(u64\)|Stopped\(u64"),
+    "1 own enums like Result": lambda f: lines(f, r"^pub enum (Conversion|Printed|Load)\b"),
+    "1 zeros for none": lambda f: lines(f, r"^(pub )?fn numbered_\w+\("),
+    "1 numbers for kinds": lambda f: lines(f, r"^\s*(\w+: )?match (list|operation) \{|fn \w+\(.*\b(list|operation): u64|^    operation: u64,|pub operation: u64,\n    pub words"),
+    "1 flags": lambda f: lines(f, r"^    pub (ok|good): bool|^    let mut good = "),
+    "2 twins": lambda f: lines(
+        f,
+        r"^(pub )?fn (read_(category|entry|element)|numbered_(category|entry|element)|add_(category|entry|element)|admit_(entry|element)"
+        r"|capped_(unstruck|shares)_of|entry_sums|capped_sums|u32_at|u64_at|(categories|entries|elements)_in|print_(division|preview)"
+        r"|read_full|read_input|put_bytes|(post|enrol|quote)(_sound)?)\b|let mut (places|operation|provision|index|slots) = \[0u",
+    ),
+    "3 loops by hand": lambda f: lines(f, r"^\s*('\w+: )?while "),
+    "4 conversions by hand": lambda f: lines(f, r"^(pub )?fn (byte|four|u32_at|u64_at|is_kind|refusal_of|value_of|numbers_of|unit_by|waiting_of|cell_of|call_of)\b"),
+    "5 soundness in contracts": lambda f: lines(f, r"requires.*\bsound book\.(old|now) ≡ true"),
+    "5 sums in contracts": lambda f: lines(f, r"requires.*sums ≡ sums_of book"),
+    "5 the program's parts together": lambda f: lines(f, r"ensures.*stage_of "),
+    "5 listed members": lambda f: lines(f, r"requires.*(Listed book\.now|≡ members_of book)"),
+    "6 arrays with a length beside": lambda f: lines(f, r"\[\.\.(count|used|pairs|shares|lent|come|done|got|at)( \+ 1)?\]"),
+    "6 parallel arrays": lambda f: lines(f, r"first_of\($|first_of\(&\[|quotients: &|remainders: &|operation: &(mut )?\[u64\]|index: &(mut )?\[u64\]"),
+    "6 searches by hand": lambda f: lines(f, r"^fn words_below"),
+    "7 switches on a step": lambda f: lines(f, r"^    match (operation|list|table) \{"),
+}
+
+
+def main():
+    arguments = [argument for argument in sys.argv[1:] if argument != "--list"]
+    files = sources(arguments[0] if arguments else None)
+    for point, find in POINTS.items():
+        found = find(files)
+        print(f"{point}: {len(found)}")
+        if "--list" in sys.argv:
+            for place in found:
+                print("    " + place)
+
+
+if __name__ == "__main__":
+    main()
