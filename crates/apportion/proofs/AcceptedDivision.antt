@@ -13,7 +13,7 @@ use Rattle.apportion.specs.Places.{one_if, list_below, at, sum_of}
 use Rattle.apportion.specs.Dividing.{floor_at, remainder_at, left_over, before, rank, unit_for, unit_at, share_at}
 use Rattle.apportion.specs.Dividing.{divided, most_places, most_pool, most_total, grounds, refusal, shares_after}
 use Rattle.apportion.specs.Inner.Products.{Accepted}
-use Rattle.apportion.specs.Inner.Units.{count_at_least, Bound, with_units}
+use Rattle.apportion.specs.Inner.Units.{count_at_least, with_units}
 use Rattle.apportion.proofs.Grounds.{none-holds, or-none, accepted-new, refused-old}
 use Rattle.apportion.proofs.Sums.{below_or_not, sum-cong, sum-some, count_most}
 use Rattle.apportion.proofs.Lists.{list_length, list_at, list-past, list-cong}
@@ -140,19 +140,8 @@ module _ {pool total : ℕ} {weights : List ℕ} {left : ℕ} {given-floors give
     rw (f.remainders_are, f.left_is) (all-reach pool weights some-weight),
   )
 
-  pub units-asked : (least : ℕ) → least < total → Bound given-remainders left least
-      → Bound given-remainders left least × ((least < most_total) × ((length given-floors ≡ length given-remainders) × ((k : ℕ) → at given-floors k ≤ most_pool)))
-  units-asked least low bound = (
-    bound,
-    (
-      omega (arith, f.accepted.within),
-      (
-        rw (f.floors_are, f.remainders_are)
-            (list_length (length weights) (floor_at pool weights) ∙ sym (list_length (length weights) (remainder_at pool weights))),
-        λ k. rw f.floors_are (floor-small pool weights f.accepted.pool_within k),
-      ),
-    ),
-  )
+  pub floors-small : (k : ℕ) → at given-floors k ≤ most_pool
+  floors-small k = rw f.floors_are (floor-small pool weights f.accepted.pool_within k)
 
   pub shares_are : with_units given-remainders left given-floors ≡ divided pool weights
   shares_are = rw (f.remainders_are, f.left_is, f.floors_are) (floors-and-units pool weights)

@@ -1,5 +1,5 @@
 -- The loop that writes the floors and the remainders. Assumes nothing.
-use mathlib.Core.Path.{◌≡◌, refl, ap, ◌∙◌}
+use mathlib.Core.Path.{◌≡◌, ap, ◌∙◌}
 use mathlib.Core.List.{List}
 use Prim.Native.Nat.{ℕ, suc, ◌+◌, ◌*◌, ◌-◌, ◌/◌, ◌%◌, ◌≤◌, ◌<◌}
 use native.Mathlib.Omega.{arith}
@@ -7,7 +7,7 @@ use lib.ListN.{length, set}
 use Rattle.apportion.specs.Places.{sum_below, list_below, at, sum_of}
 use Rattle.apportion.specs.Dividing.{floor_at, remainder_at, left_over}
 use Rattle.apportion.proofs.Sums.{sum_more, sum-next}
-use Rattle.apportion.proofs.Lists.{filled, filled-length, filled_next, filled-whole}
+use Rattle.apportion.proofs.Lists.{filled, filled_next, filled-whole}
 use Rattle.apportion.proofs.FloorsAndUnits.{floors-within, left-and-floors}
 
 -- Up to place k the floors and the remainders are written, and the floors are taken from the pool.
@@ -18,19 +18,8 @@ pub record Flooring (pool : ℕ) (weights floors₀ remainders₀ floors remaind
   pub remainders_are : remainders ≡ filled k (remainder_at pool weights) remainders₀
   pub left_is : left + sum_below k (floor_at pool weights) ≡ pool
 
-pub flooring-start : {pool : ℕ} {weights floors₀ remainders₀ : List ℕ} → length floors₀ ≡ length weights → length remainders₀ ≡ length weights
-    → Flooring pool weights floors₀ remainders₀ floors₀ remainders₀ pool 0
-flooring-start long-f long-r =
-    record { passed = omega arith; long = (long-f, long-r); floors_are = refl; remainders_are = refl; left_is = omega arith }
-
 module _ {pool : ℕ} {weights floors₀ remainders₀ floors remainders : List ℕ} {left k : ℕ}
     (f : Flooring pool weights floors₀ remainders₀ floors remainders left k) where
-  pub flooring-long : (length floors ≡ length weights) × (length remainders ≡ length weights)
-  flooring-long =
-      let a = filled-length k (floor_at pool weights) floors₀ (omega (arith, f)) in
-      let b = filled-length k (remainder_at pool weights) remainders₀ (omega (arith, f)) in
-      (omega (arith, ap length f.floors_are, a, f.long), omega (arith, ap length f.remainders_are, b, f.long))
-
   module _ {quotient remainder : ℕ} (here : k < length weights)
       (part : (quotient ≡ pool * at weights k / sum_of weights) × (remainder ≡ pool * at weights k % sum_of weights)) where
     floor-here : quotient ≡ floor_at pool weights k

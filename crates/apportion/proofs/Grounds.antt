@@ -2,46 +2,17 @@
 -- Assumes nothing.
 use mathlib.Core.Bool.{Bool, cond, not, false, true, ◌&&◌, ◌||◌, true≢false}
 use mathlib.Core.List.{List, [], ◌∷◌, ◌++◌}
-use mathlib.Core.Logic.{◌⊎◌, inl, inr}
 use mathlib.Core.Path.{◌≡◌, refl, sym, ap, ◌∙◌}
-use Prim.Native.Nat.{ℕ, suc, zero, ◌+◌, ◌<◌, ◌≤◌}
-use native.Mathlib.Numerals.{add-one}
+use Prim.Native.Nat.{ℕ, suc, zero, ◌<◌}
 use native.Mathlib.Omega.{arith}
 use borrow.Author.Tests.{eq-eqb}
 use lib.Dec.{eqb}
-use lib.ListN.{length, drop, get_or, drop_of_length-le}
-use lib.Seq.{drop-cons}
-use Rattle.apportion.specs.Grounds.{accepted, Ground, first_of, grounds_of, checked_just_after}
+use Rattle.apportion.specs.Grounds.{accepted, Ground, first_of, checked_just_after}
 use Rattle.apportion.specs.Inner.Grounds.{grounds_before}
 
 pub or-none : (a b : Bool) → a || b ≡ false → (a ≡ false) × (b ≡ false)
 or-none true b e = absurd (true≢false e)
 or-none false b e = (refl, e)
-
--- grounds by their numbers and conditions, of which those before place k do not hold
-pub record Passing (numbers : List ℕ) (conditions : List Bool) (k : ℕ) : Type 0 where
-  pub inside : k ≤ length numbers
-  pub same : first_of (grounds_of numbers conditions) ≡ first_of (grounds_of (drop k numbers) (drop k conditions))
-
-module _ {numbers : List ℕ} {conditions : List Bool} {k : ℕ} (past : Passing numbers conditions k) where
-  here : k < length numbers → k < length conditions
-      → first_of (grounds_of numbers conditions)
-      ≡ cond (get_or conditions k false) (get_or numbers k 0) (first_of (grounds_of (drop (k + 1) numbers) (drop (k + 1) conditions)))
-  here h i = past.same ∙ rw (add-one, drop-cons numbers k 0, drop-cons conditions k false)
-
-  pub passing-next : k < length numbers → k < length conditions → get_or conditions k false ≡ false → Passing numbers conditions (k + 1)
-  passing-next h i e = record { inside = omega arith; same = here h i ∙ rw e }
-
-  pub passing-held : k < length numbers → k < length conditions → get_or conditions k false ≡ true → get_or numbers k 0 ≡ first_of (grounds_of numbers conditions)
-  passing-held h i e = sym (here h i ∙ rw e)
-
-  pub passing-end : (length numbers ≤ k) ⊎ (length conditions ≤ k) → 0 ≡ first_of (grounds_of numbers conditions)
-  passing-end (inl h) = sym (past.same ∙ rw (drop_of_length-le numbers h))
-  passing-end (inr h) = sym (past.same ∙ rw (drop_of_length-le conditions h) (none (drop k numbers)))
-    where
-      none : (ns : List ℕ) → first_of (grounds_of ns []) ≡ 0
-      none [] = refl
-      none (n ∷ ns) = refl
 
 -- an accepted call leaves the new, a refused one the old
 pub accepted-new : {A : Type 0} (n : ℕ) (new old : A) → n ≡ 0 → accepted n new old ≡ new

@@ -1,6 +1,7 @@
 -- The laws of the dividing rule, and what the proofs of its functions share.
 -- ordered grounds, each named by its number
 pub mod Grounds
+pub mod Refusals
 -- sums and counts over places
 pub mod Sums
 -- lists over places
@@ -21,7 +22,5 @@ pub mod UnitLoop
 pub mod AcceptedDivision
 -- rounding to the nearest whole number
 pub mod Rounding
--- a branch's test as the test of a definition
-pub mod Tests
 -- the laws for the crates above
 pub mod Laws

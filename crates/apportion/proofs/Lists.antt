@@ -1,15 +1,20 @@
 -- Laws of lists over places. Assumes nothing.
 use mathlib.Core.Path.{◌≡◌, refl, sym, ap, ◌∙◌}
+use mathlib.Core.Bool.{Bool}
 use mathlib.Core.List.{List, [], ◌∷◌, ◌++◌, append_assoc, append-nil}
 use mathlib.Core.Logic.{⊎_elim}
 use Prim.Native.Nat.{ℕ, zero, suc, ◌+◌, ◌≤◌, ◌<◌}
 use native.Mathlib.Nat.{eq-or-lt_of_le}
 use native.Mathlib.Numerals.{add-one}
 use native.Mathlib.Omega.{arith}
-use lib.ListN.{length, get_or, drop, set, length-append, length-drop, drop_of_length-le, get_or-append, get_or-eq_default}
+use lib.ListN.{replicate, length, get_or, drop, set, length-append, length-drop, drop_of_length-le, get_or-append, get_or-eq_default}
 use lib.Seq.{get_or_at, drop-cons, set_at}
-use Rattle.apportion.specs.Places.{sum_below, list_below, at, sum_of}
-use Rattle.apportion.proofs.Sums.{sum-cong}
+use Rattle.apportion.specs.Places.{sum_below, one_if, count_below, list_below, at, sum_of}
+use mir.Val.{bool_byte}
+use Rattle.std.specs.List.{sum_by}
+use Rattle.std.proofs.lemmas.List.{replicate_more}
+use Rattle.std.proofs.lemmas.List.Sums.{sum_by-cons}
+use Rattle.apportion.proofs.Sums.{byte-one, sum-cong, sum-first}
 
 pub list_length : (n : ℕ) (f : ℕ → ℕ) → length (list_below n f) ≡ n
 list_length zero f = refl
@@ -36,6 +41,17 @@ list-cong (suc n) f g same = rw (list-cong n f g (λ k h. same k (omega arith)),
 pub list-sum : (n : ℕ) (f : ℕ → ℕ) → sum_of (list_below n f) ≡ sum_below n f
 unfolding sum_of
 list-sum n f = rw (list_length n f) (sum-cong n (at (list_below n f)) f (list_at n f))
+
+pub list-zeros : (n : ℕ) → list_below n (λ k. 0) ≡ replicate n 0
+list-zeros zero = refl
+list-zeros (suc n) = rw (list-zeros n, replicate_more {X = ℕ} n 0, add-one)
+
+-- a count over the numbers of a list, as the code makes it
+pub count-by-place : (test : ℕ → Bool) (xs : List ℕ) → sum_by (λ x. bool_byte (test x)) xs ≡ count_below (length xs) (λ k. test (at xs k))
+count-by-place test [] = refl
+count-by-place test (x ∷ xs) =
+    sum_by-cons (λ y. bool_byte (test y)) x xs
+    ∙ omega (arith, count-by-place test xs, sum-first (length xs) (λ k. one_if (test (at (x ∷ xs) k))), byte-one (test x))
 
 -- A slice that is being filled from the front holds the new numbers up to k, and the old ones from k on.
 abbrev pub filled : ℕ → (ℕ → ℕ) → List ℕ → List ℕ

@@ -7,6 +7,7 @@ use native.Mathlib.Nat.{le_refl, eq-or-lt_of_le, mul-zero}
 use native.Mathlib.Numerals.{add-one}
 use native.Mathlib.Omega.{arith}
 use lib.Dec.{ltb}
+use mir.Val.{bool_byte}
 use borrow.Author.Tests.{ltb-true, ltb-false}
 use Rattle.apportion.specs.Places.{sum_below, one_if, count_below}
 
@@ -69,6 +70,14 @@ pub one_at_most : (b : Bool) → one_if b ≤ 1
 one_at_most true = omega arith
 one_at_most false = omega arith
 
+-- a test as a number, as the code makes it
+pub byte-one : (b : Bool) → bool_byte b ≡ one_if b
+byte-one true = refl
+byte-one false = refl
+
+pub byte_most : (b : Bool) → bool_byte b ≤ 1
+byte_most b = rw byte-one (one_at_most b)
+
 -- what passes the first test passes the second
 pub one-le : (a b : Bool) → (a ≡ true → b ≡ true) → one_if a ≤ one_if b
 one-le true b h = rw (h refl) (le_refl 1)
@@ -86,3 +95,8 @@ sum-some n f k h = omega (arith, sum_more (suc k) n f h)
 -- one place more, as the code counts
 pub sum-next : (k : ℕ) (f : ℕ → ℕ) → sum_below (k + 1) f ≡ sum_below k f + f k
 sum-next k f = rw add-one
+
+-- a sum by its first place
+pub sum-first : (n : ℕ) (f : ℕ → ℕ) → sum_below (suc n) f ≡ f 0 + sum_below n (λ k. f (suc k))
+sum-first zero f = omega arith
+sum-first (suc n) f = omega (arith, sum-first n f)

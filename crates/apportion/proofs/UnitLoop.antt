@@ -1,5 +1,5 @@
 -- The loop that hands out the units left over. Assumes nothing.
-use mathlib.Core.Path.{◌≡◌, refl, sym, ap, ◌∙◌}
+use mathlib.Core.Path.{◌≡◌, sym, ◌∙◌}
 use mathlib.Core.List.{List}
 use Prim.Native.Nat.{ℕ, ◌+◌, ◌-◌, ◌≤◌, ◌<◌}
 use native.Mathlib.Numerals.{add-one}
@@ -10,7 +10,7 @@ use Rattle.apportion.specs.Places.{one_if, count_below, at}
 use Rattle.apportion.specs.Dividing.{unit_for}
 use Rattle.apportion.specs.Inner.Units.{count_at_least, Bound, unit_by, with_units}
 use Rattle.apportion.proofs.Sums.{sum-next, count_most}
-use Rattle.apportion.proofs.Lists.{filled, filled-length, filled_next, filled-whole, filled_at}
+use Rattle.apportion.proofs.Lists.{filled, filled_next, filled-whole, filled_at}
 use Rattle.apportion.proofs.UnitsByBound.{unit-by}
 
 -- the share of place k with its unit
@@ -25,15 +25,7 @@ pub record Handing (remainders : List ℕ) (least left : ℕ) (shares₀ shares 
   pub shares_are : shares ≡ filled k (served remainders left shares₀) shares₀
   pub earlier_is : earlier ≡ count_below k (λ j. eqb (at remainders j) least)
 
-pub handing-start : {remainders : List ℕ} {least left : ℕ} {shares₀ : List ℕ} → Bound remainders left least → length shares₀ ≡ length remainders
-    → Handing remainders least left shares₀ shares₀ 0 0
-handing-start bound long =
-    record { passed = omega arith; long = long; bound = bound; shares_are = refl; earlier_is = refl }
-
 module _ {remainders : List ℕ} {least left : ℕ} {shares₀ shares : List ℕ} {earlier k : ℕ} (s : Handing remainders least left shares₀ shares earlier k) where
-  pub handing-long : length shares ≡ length remainders
-  handing-long = ap length s.shares_are ∙ filled-length k (served remainders left shares₀) shares₀ (omega (arith, s)) ∙ s.long
-
   pub handing-few : earlier ≤ k
   handing-few = omega (arith, s.earlier_is, count_most k (λ j. eqb (at remainders j) least))
 

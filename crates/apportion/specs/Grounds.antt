@@ -10,12 +10,6 @@ abbrev pub first_of : List Ground → ℕ
 first_of [] = 0
 first_of (g ∷ gs) = cond g.1 g.0 (first_of gs)
 
--- grounds by their numbers and their conditions, in order
-abbrev pub grounds_of : List ℕ → List Bool → List Ground
-grounds_of [] conditions = []
-grounds_of (n ∷ numbers) [] = []
-grounds_of (n ∷ numbers) (c ∷ conditions) = (n, c) ∷ grounds_of numbers conditions
-
 -- these grounds and one more, checked just after that of this number; last where there is none of it
 abbrev pub checked_just_after : ℕ → Ground → List Ground → List Ground
 checked_just_after number new [] = new ∷ []

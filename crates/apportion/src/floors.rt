@@ -5,113 +5,103 @@ ghost use Rattle.apportion.specs.Dividing.{most_pool, most_total, floor_at, rema
 ghost use Rattle.apportion.specs.Inner.Products.{Accepted, Powers};
 
 // A number by its quotient and its remainder.
-#[derive(Clone, Copy)]
+#[derive(Clone, Copy, Default)]
 struct Division {
     pub quotient: u64,
     pub remainder: u64,
 }
 
-// The sum of two numbers that are held by the same total.
-fn add(a: Division, b: Division, total: u64) -> Division
-    requires quotient_le_most_pool { (a.quotient ≤ most_pool) × (b.quotient ≤ most_pool) }
-    requires remainder_lt_total { (a.remainder < total) × (b.remainder < total) × (total ≤ most_total) }
-    ensures remainder_value { result.quotient * total + result.remainder ≡ (a.quotient + b.quotient) * total + (a.remainder + b.remainder) }
-    ensures remainder_lt_total_2 { result.remainder < total }
-{
-    let quotient = a.quotient + b.quotient;
-    let remainder = a.remainder + b.remainder;
-    if remainder >= total {
-        return Division {
-            quotient: quotient + 1,
-            remainder: remainder - total,
-        };
-    }
-    Division {
-        quotient,
-        remainder,
-    }
-}
-
-// Writes pool × 2 ^ bit by the total for each bit that a weight within the total can have.
-fn set_powers(pool: u64, total: u64, quotients: &mut [u64], remainders: &mut [u64])
-    requires accepted { Accepted pool total }
-    requires quotients_len { (length quotients.old ≡ 60) × (length remainders.old ≡ 60) }
-    ensures { Powers pool total quotients.new remainders.new }
-{
-    let mut power = Division {
-        quotient: pool / total,
-        remainder: pool % total,
-    };
-    let mut step = 1;
-    let mut bit = 0;
-    while step <= total {
-        quotients[bit] = power.quotient;
-        remainders[bit] = power.remainder;
-        power = add(power, power, total);
-        step += step;
-        bit += 1;
-    }
-}
-
-// pool × weight by the total: the sum of the powers of this pool at the weight's bits.
-fn divide_product(
-    pool: u64,
-    weight: u64,
-    total: u64,
-    quotients: &[u64],
-    remainders: &[u64],
-) -> Division
-    requires accepted { Accepted pool total }
-    requires weight_le_total { weight ≤ total }
-    requires powers { Powers pool total quotients.now remainders.now }
-    ensures { (result.quotient ≡ pool * weight / total) × (result.remainder ≡ pool * weight % total) }
-{
-    let mut sum = Division {
-        quotient: 0,
-        remainder: 0,
-    };
-    let mut rest = weight;
-    let mut bit = 0;
-    while rest > 0 {
-        if rest % 2 == 1 {
-            let power = Division {
-                quotient: quotients[bit],
-                remainder: remainders[bit],
+impl Division {
+    // The sum of two numbers that are held by the same total.
+    fn plus(self, other: Division, total: u64) -> Division
+        requires quotient_le_most_pool { (self.quotient ≤ most_pool) × (other.quotient ≤ most_pool) }
+        requires remainder_lt_total { (self.remainder < total) × (other.remainder < total) × (total ≤ most_total) }
+        ensures remainder_value { result.quotient * total + result.remainder ≡ (self.quotient + other.quotient) * total + (self.remainder + other.remainder) }
+        ensures remainder_lt_total_2 { result.remainder < total }
+    {
+        let quotient = self.quotient + other.quotient;
+        let remainder = self.remainder + other.remainder;
+        if remainder >= total {
+            return Division {
+                quotient: quotient + 1,
+                remainder: remainder - total,
             };
-            sum = add(sum, power, total);
         }
-        rest /= 2;
-        bit += 1;
+        Division {
+            quotient,
+            remainder,
+        }
     }
-    sum
 }
 
-// Writes each place's floor and remainder, and answers the units left over.
-pub fn set_floors(
-    pool: u64,
-    total: u64,
-    weights: &[u64],
-    floors: &mut [u64],
-    remainders: &mut [u64],
-) -> u64
-    requires accepted { Accepted pool total }
-    requires total_value { total ≡ sum_of weights.now }
-    requires floors_len { (length floors.old ≡ length weights.now) × (length remainders.old ≡ length weights.now) }
-    ensures value { result ≡ left_over pool weights.now }
-    ensures floors_after { floors.new ≡ list_below (length weights.now) (floor_at pool weights.now) }
-    ensures remainders_after { remainders.new ≡ list_below (length weights.now) (remainder_at pool weights.now) }
-{
-    let mut power_quotients = [0u64; 60];
-    let mut power_remainders = [0u64; 60];
-    set_powers(pool, total, &mut power_quotients, &mut power_remainders);
-    let mut left = pool;
-    let mut k = 0;
-    while k < weights.len() {
-        let part = divide_product(pool, weights[k], total, &power_quotients, &power_remainders);
-        floors[k] = part.quotient;
-        remainders[k] = part.remainder;
-        left -= part.quotient;
-        k += 1;
+// An accepted pool and total, with pool × 2 ^ bit by the total for each bit that a weight within the total can have.
+#[derive(Drop)]
+pub struct PowersOfPool {
+    pub pool: u64,
+    pub total: u64,
+    by_bit: [Division; 60],
+    ghost accepted: { Accepted pool total },
+    ghost powers: { Powers pool total by_bit },
+}
+
+impl PowersOfPool {
+    pub fn new(pool: u64, total: u64) -> PowersOfPool
+        requires accepted { Accepted pool total }
+        ensures { (result.pool ≡ pool) × (result.total ≡ total) }
+    {
+        let mut by_bit = [Division::default(); 60];
+        let mut power = Division {
+            quotient: pool / total,
+            remainder: pool % total,
+        };
+        let mut step = 1;
+        for place in by_bit.iter_mut() {
+            if step > total {
+                break;
+            }
+            *place = power;
+            power = power.plus(power, total);
+            step += step;
+        }
+        PowersOfPool {
+            pool,
+            total,
+            by_bit,
+        }
     }
-    left
+
+    // pool × weight by the total: the sum of the powers of this pool at the weight's bits.
+    #[tactic(auto, using(crate::proofs::Powers::bit_small))]
+    fn times(&self, weight: u64) -> Division
+        requires weight_le_total { weight ≤ self.now.total }
+        ensures { (result.quotient ≡ self.now.pool * weight / self.now.total) × (result.remainder ≡ self.now.pool * weight % self.now.total) }
+    {
+        let mut sum = Division::default();
+        let mut rest = weight;
+        // One turn for each bit that is set: a `for` over all of them costs up to a third more.
+        while rest > 0 {
+            let bit = rest.ilog2();
+            sum = sum.plus(self.by_bit[bit as usize], self.total);
+            rest -= 1 << bit;
+        }
+        sum
+    }
+
+    // Writes each place's floor and remainder, and answers the units left over.
+    pub fn set_floors(&self, weights: &[u64], floors: &mut [u64], remainders: &mut [u64]) -> u64
+        requires total_value { self.now.total ≡ sum_of weights.now }
+        requires floors_len { (length floors.old ≡ length weights.now) × (length remainders.old ≡ length weights.now) }
+        ensures value { result ≡ left_over self.now.pool weights.now }
+        ensures floors_after { floors.new ≡ list_below (length weights.now) (floor_at self.now.pool weights.now) }
+        ensures remainders_after { remainders.new ≡ list_below (length weights.now) (remainder_at self.now.pool weights.now) }
+    {
+        let mut left = self.pool;
+        for (k, &weight) in weights.iter().enumerate() {
+            let part = self.times(weight);
+            floors[k] = part.quotient;
+            remainders[k] = part.remainder;
+            left -= part.quotient;
+        }
+        left
+    }
 }

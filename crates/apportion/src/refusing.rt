@@ -1,21 +1,57 @@
-// The first of several grounds that holds.
+// Why a call is refused, and the first of several grounds that holds.
 ghost use Rattle.std.specs.Prelude.{◌≡◌};
-ghost use Rattle.apportion.specs.Grounds.{first_of, grounds_of};
+ghost use Rattle.apportion.specs.Grounds.{first_of};
+ghost use Rattle.apportion.specs.Refusals.{number_of, refusal_in, grounds_of};
 
-// The number of the first ground whose condition holds, or 0. The grounds are given by their numbers and
-// their conditions, in order.
-pub fn first_of(numbers: &[u64], conditions: &[bool]) -> u64
-    ensures { result ≡ first_of (grounds_of numbers.now conditions.now) }
-{
-    let mut k = 0;
-    while k < numbers.len() {
-        if k >= conditions.len() {
-            return 0;
-        }
-        if conditions[k] {
-            return numbers[k];
-        }
-        k += 1;
+// The grounds of documents 01 and 02, each with its number.
+#[derive(Clone, Copy, Debug, PartialEq, Eq)]
+pub enum Refusal {
+    // A slice is too short, the lengths of a division do not fit, or the book is not sound.
+    Unfit = 1,
+    Unnumbered = 2,
+    Unknown = 3,
+    Closed = 4,
+    StillOpen = 5,
+    Unsuited = 6,
+    OutOfRange = 7,
+    Full = 8,
+    Indivisible = 9,
+    TooLarge = 10,
+    WrongHeader = 11,
+    Misplaced = 12,
+    WrongField = 13,
+    Mixed = 14,
+    WrongCell = 15,
+    ReversedSpan = 16,
+    ShortPairs = 17,
+}
+
+impl From<Refusal> for u64 {
+    ghost from_gives = { λ refusal number. number ≡ number_of refusal };
+
+    fn from(refusal: Refusal) -> u64 {
+        refusal as u64
     }
-    0
+}
+
+// Refuses with the first of these grounds whose condition holds.
+pub fn first_of(grounds: &[(Refusal, bool)]) -> Result<(), Refusal>
+    ensures { refusal_in result ≡ first_of (grounds_of grounds.now) }
+{
+    for (refusal, holds) in grounds {
+        if *holds {
+            return Err(*refusal);
+        }
+    }
+    Ok(())
+}
+
+// The refusal number of an answer: 0 where it is accepted.
+pub fn refusal_number<T: Copy>(answer: Result<T, Refusal>) -> u64
+    ensures { result ≡ refusal_in answer }
+{
+    match answer {
+        Ok(_) => 0,
+        Err(refusal) => refusal.into(),
+    }
 }

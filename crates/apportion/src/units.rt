@@ -8,15 +8,10 @@ ghost use Rattle.apportion.specs.Inner.Units.{count_at_least, Bound, unit_by, wi
 fn count_at_least(remainders: &[u64], bound: u64) -> u64
     ensures { result ≡ count_at_least remainders.now bound }
 {
-    let mut count = 0;
-    let mut k = 0;
-    while k < remainders.len() {
-        if remainders[k] >= bound {
-            count += 1;
-        }
-        k += 1;
-    }
-    count
+    remainders
+        .iter()
+        .map(|&remainder| u64::from(remainder >= bound))
+        .sum()
 }
 
 // A bound by which the units left over are handed out, found by halving the range 0 to total.
@@ -27,6 +22,7 @@ pub fn unit_bound(remainders: &[u64], total: u64, left: u64) -> u64
 {
     let mut low = 0;
     let mut high = total;
+    // The halving counts nothing up, so it stays a `while`.
     while high - low > 1 {
         let middle = low + (high - low) / 2;
         let count = count_at_least(remainders, middle);
@@ -48,15 +44,7 @@ fn unit_by(remainder: u64, least: u64, earlier: u64, equal: u64) -> u64
     ensures value { result ≡ unit_by remainder least earlier equal }
     ensures upper_bound { result ≤ 1 }
 {
-    if remainder > least {
-        return 1;
-    }
-    if remainder == least {
-        if earlier < equal {
-            return 1;
-        }
-    }
-    0
+    u64::from(remainder > least) + u64::from(remainder == least && earlier < equal)
 }
 
 // Adds one unit to the share of each place above the bound, and of those at the bound to the earlier.
@@ -69,13 +57,8 @@ pub fn add_units(remainders: &[u64], least: u64, left: u64, shares: &mut [u64])
 {
     let equal = left - count_at_least(remainders, least + 1);
     let mut earlier = 0;
-    let mut k = 0;
-    while k < remainders.len() {
-        let remainder = remainders[k];
+    for (k, &remainder) in remainders.iter().enumerate() {
         shares[k] += unit_by(remainder, least, earlier, equal);
-        if remainder == least {
-            earlier += 1;
-        }
-        k += 1;
+        earlier += u64::from(remainder == least);
     }
 }

@@ -13,5 +13,5 @@ pub extern "C" fn quaymeter_divide(pool: u64, weights: &[u64], shares: &mut [u64
     ensures value { result ≡ refusal pool (length weights.now) (length shares.old) (sum_of weights.now) }
     ensures shares_after { shares.new ≡ shares_after pool weights.now shares.old }
 {
-    apportion::divide(pool, weights, shares)
+    apportion::refusal_number(apportion::divide(pool, weights, shares))
 }

@@ -4,7 +4,7 @@ use mathlib.Core.List.{List, [], ◌∷◌}
 use mathlib.Core.Path.{◌≡◌, refl, sym, ap, ◌∙◌}
 use Prim.Native.Nat.{ℕ, ◌+◌}
 use native.Mathlib.Omega.{arith}
-use borrow.Author.Tests.{not-true, not-false}
+use borrow.Author.Tests.{not-false}
 use Rattle.apportion.specs.Grounds.{accepted, Ground, first_of}
 use Rattle.apportion.specs.Inner.Grounds.{grounds_before}
 use Rattle.book_words.specs.Measures.{standard_activity}
@@ -13,13 +13,11 @@ use Rattle.book_words.specs.Inner.Steps.{capped, cap_sums}
 use Rattle.book_words.specs.declared.totals.Sums.{Sums}
 use Rattle.book.specs.declared.arguments.PostArguments.{PostArguments}
 use Rattle.book.specs.declared.arguments.QuoteArguments.{QuoteArguments}
-use Rattle.book.specs.declared.replies.Counted.{Counted}
-use Rattle.book.specs.declared.replies.Reply.{Reply}
+use Rattle.book.specs.Replies.{Reply, reply_of}
 use Rattle.book.specs.Inner.Appending.{ten_of, cap_amounts, cap_shares}
-use Rattle.book.specs.Calls.{reply_of, posted_entry, quoted_element}
+use Rattle.book.specs.Calls.{posted_entry, quoted_element}
 use Rattle.apportion.proofs.Grounds.{are_numbered, grounds_from, decided-from}
 use Rattle.book_words.proofs.CappedSums.{capped_small, capped-more, sums-exact, sums-within, within-parts}
-use Rattle.book.proofs.TestsAsGrounds.{counted-refused}
 
 -- the sums with two amounts more, and this activity
 module _ (sums : Sums) (x y z : ℕ) where
@@ -64,36 +62,25 @@ abbrev Answered : ℕ → ℕ → List ℕ → List ℕ → Reply → List ℕ �
 Answered refusal number new old reply after sums =
     (reply ≡ reply_of refusal number) × ((after ≡ accepted refusal new old) × (sums ≡ sums_of after))
 
--- a record is refused, or admitted, by the capped sums that it would make, which are `more`
-module _ (more : Sums) (number : ℕ) (new old : List ℕ) {after : Sums} {t : Bool} (is : after ≡ cap_sums more) (test : t ≡ within_limits after) where
-  decided : t ≡ within_limits more
-  decided = test ∙ ap within_limits is ∙ sums-within more
-
-  pub refused-with : {r : Counted} {sums : Sums} → not t ≡ true → r ≡ record { reply = record { refusal = 10; number = 0 }; sums = sums }
-      → sums ≡ sums_of old → Answered (ten_of more) number new old r.reply old r.sums
-  refused-with past e known =
-      let ten : 10 ≡ ten_of more = rw (sym decided ∙ not-true t past) in
-      counted-refused number new e ten (λ z. omega arith) known
-
-  pub admitted : {r : Reply} {left : List ℕ} → not t ≡ false → (r ≡ reply_of 0 number) × (left ≡ new) → sums_of new ≡ more
-      → Answered (ten_of more) number new old r left after
-  admitted within made sums =
-      let fine = sym decided ∙ not-false t within in
-      (rw fine made.0, (rw fine made.1, is ∙ sums-exact more fine ∙ sym (ap sums_of made.1 ∙ sums)))
+-- where a record is admitted by the capped sums that it would make, which are `more`, these are the sums of the book that is left
+pub admitted : (more : Sums) {after : Sums} {left new : List ℕ} → after ≡ cap_sums more → true ≡ within_limits after → left ≡ new → sums_of new ≡ more
+    → after ≡ sums_of left
+admitted more is test made sums =
+    is ∙ sums-exact more (sym (test ∙ ap within_limits is ∙ sums-within more)) ∙ sym (ap sums_of made ∙ sums)
 
 -- Past the grounds before 10 the record `made`, which was admitted or not, and the call's record `new` decide alike: the reply and the
 -- book are the call's.
 pub record-decided : {R : Type 0} (with-record : Sums → R → Sums) (add : List ℕ → R → List ℕ) (new cap : R) (gs : List Ground) (number : ℕ) (ws : List ℕ)
-    {n : ℕ} {made : R} {sums : Sums} {r : Counted} {after : List ℕ} → are_numbered gs ≡ true
+    {made : R} {sums left : Sums} {r : Reply} {after : List ℕ} → are_numbered gs ≡ true
     → grounds_from 10 gs ≡ (10, passes_limits (with-record (sums_of ws) new)) ∷ []
-    → n ≡ first_of (grounds_before 10 gs) → n ≡ 0 → sums ≡ sums_of ws → made ≡ cap → Alike (with-record sums) cap new
-    → Answered (ten_of (with-record sums made)) number (add ws made) ws r.reply after r.sums
-    → Answered (first_of gs) number (add ws new) ws r.reply after r.sums
-record-decided with-record add new cap gs number ws {sums = sums} {r = r} {after = after} numbered ten is none known made-is alike gave =
-    rw (decided-from 10 gs numbered (sym is ∙ none) ∙ ap first_of ten, ← known)
+    → 0 ≡ first_of (grounds_before 10 gs) → sums ≡ sums_of ws → made ≡ cap → Alike (with-record sums) cap new
+    → Answered (ten_of (with-record sums made)) number (add ws made) ws r after left
+    → Answered (first_of gs) number (add ws new) ws r after left
+record-decided with-record add new cap gs number ws {sums = sums} {left = left} {r = r} {after = after} numbered ten none known made-is alike gave =
+    rw (decided-from 10 gs numbered (sym none) ∙ ap first_of ten, ← known)
     (go (passes_limits (with-record sums new)) refl (rw (made-is, alike.0) at gave))
   where
-    go : (b : Bool) → passes_limits (with-record sums new) ≡ b → Answered (cond b 10 0) number (add ws cap) ws r.reply after r.sums
-        → Answered (cond b 10 0) number (add ws new) ws r.reply after r.sums
+    go : (b : Bool) → passes_limits (with-record sums new) ≡ b → Answered (cond b 10 0) number (add ws cap) ws r after left
+        → Answered (cond b 10 0) number (add ws new) ws r after left
     go true e a = a
     go false e a = (a.0, (a.1.0 ∙ ap (add ws) (alike.1 e), a.1.1))

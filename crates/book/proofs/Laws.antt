@@ -32,7 +32,7 @@ use Rattle.book.specs.declared.arguments.QuoteArguments.{QuoteArguments}
 use Rattle.book.specs.Calls.{cleared, fresh_refusal, fresh_book, open_refusal, open_book, post_refusal, post_book, posted_entry}
 use Rattle.book.specs.Calls.{quote_in_range, strike_refusal, strike_book, enrol_in_range, enrol_refusal, enrol_book, enrolled_element, quote_refusal, quote_book, quoted_element}
 use Rattle.book.specs.Calls.{post_reply, post_grounds}
-use Rattle.book.specs.declared.replies.Reply.{Reply}
+use Rattle.book.specs.Replies.{Reply}
 use Rattle.book.specs.Lines.{line_post, line_reply, line_book}
 use Rattle.book.specs.Statements.{of_chain, waits, elements_over, waiting_over, shares_over, zeros_beside, statement_of, statement_refusal, statement_reply}
 use Rattle.book.specs.Walk.{with_total, StatementWalk}
@@ -321,14 +321,6 @@ module _ (ws : List ℕ) where
 
   -- statement: what an accepted one answers, and where it is zeros
   module _ (chain : ℕ) where
-    pub statement-unsound : sound ws ≡ false → statement_reply ws chain ≡ zeros_beside 1
-    unfolding statement_reply statement_refusal
-    statement-unsound unsound = rw unsound
-
-    pub statement-unknown : sound ws ≡ true → is_chain chain ≡ false → statement_reply ws chain ≡ zeros_beside 3
-    unfolding statement_reply statement_refusal
-    statement-unknown fine unknown = rw (fine, unknown)
-
     pub statement-accepted : sound ws ≡ true → is_chain chain ≡ true → statement_reply ws chain ≡ statement_of ws chain
     unfolding statement_reply statement_refusal
     statement-accepted fine known = rw (fine, known)

@@ -8,7 +8,8 @@ use Rattle.apportion.proofs.Grounds.{accepted-new, refused-old}
 use Rattle.workbook.specs.Lines.{line_refusal, converted_line}
 use Rattle.book.specs.declared.arguments.LineArguments.{LineArguments}
 use Rattle.book.specs.declared.arguments.PostArguments.{PostArguments}
-use Rattle.book.specs.Calls.{refusal_alone, post_reply, post_book}
+use Rattle.book.specs.Calls.{post_reply, post_book}
+use Rattle.book.specs.Replies.{refusal_alone}
 use Rattle.book.specs.Lines.{line_post, line_reply, line_book}
 
 module _ (ws : List ℕ) (l : LineArguments) where

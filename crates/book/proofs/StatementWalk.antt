@@ -1,52 +1,35 @@
 -- What the walk of a statement, or of the class total, holds after the first k elements. Assumes nothing.
-use mathlib.Core.Bool.{true, false, cond, ◌&&◌, Bool, not, not-not}
+use mathlib.Core.Bool.{true, false, cond, ◌&&◌, Bool}
 use mathlib.Core.List.{List}
 use mathlib.Core.Logic.{◌⊎◌, ⊎_elim}
 use mathlib.Core.Path.{◌≡◌, refl, ◌∙◌, ap, sym, fun_ext}
 use Prim.Native.Nat.{ℕ, zero, suc, ◌≤◌, ◌<◌, ◌+◌}
-use native.Mathlib.Nat.{add-zero, eq-zero-or-pos}
+use native.Mathlib.Nat.{add-zero}
 use native.Mathlib.Numerals.{add-one}
 use native.Mathlib.Omega.{arith}
 use lib.Dec.{eqb, leb}
 use borrow.Author.Tests.{eq-eqb, ne_eqb, le-leb, lt-leb}
 use Rattle.apportion.specs.Places.{one_if, sum_below}
-use Rattle.book_words.specs.Book.{elements, most_elements, element_at, categories, category_of}
-use Rattle.book_words.specs.Inner.Steps.{numbered_category}
+use Rattle.book_words.specs.Book.{elements, most_elements, element_at}
 use Rattle.book_words.specs.Measures.{between, most_chains}
 use Rattle.book_words.specs.Soundness.{sound}
 use Rattle.book_words.specs.declared.totals.Side.{Side}
 use Rattle.book_words.specs.declared.totals.Side.TheVariants.{Operation as operation, Provision as provision}
 use Rattle.book_words.specs.Totals.{most_emissions, share_of}
-use Rattle.book.specs.declared.replies.Statement.{Statement}
+use Rattle.book.specs.Statements.{StatementReply}
 use Rattle.book.specs.ClassTotal.{class_total}
 use Rattle.book.specs.Inner.Chains.{of_chains}
 use Rattle.book.specs.declared.walks.Held.{Held}
 use Rattle.book.specs.Walk.{held_after, held_with, walk_over, with_total}
 use Rattle.book.specs.Statements.{elements_over, waiting_over, shares_over, statement_over, waits, of_chain, statement_of}
-use Rattle.book_words.specs.declared.records.Category.{Category}
 use Rattle.book_words.specs.declared.records.Element.{Element}
 use Rattle.apportion.proofs.Sums.{order, sum-next, sum-le, sum-cong, sum-add, sum_more, count_most}
 use Rattle.book_words.proofs.Booleans.{and_both, cond-most}
 use Rattle.book_words.proofs.ShareSums.{chain-inside, shares-limited}
-use Rattle.book_words.proofs.NumberedRecords.{category-there}
 use Rattle.book_words.proofs.SoundTests.{sound-counted}
 
--- an element in an open category, by the tests of the code
-pub waits-told : (ws : List ℕ) (e : Element) (r : Category) → r ≡ numbered_category ws e.category → e.category ≤ categories ws
-    → (t : Bool) → not (eqb e.category 0) && eqb r.closed 0 ≡ t → one_if t ≡ one_if (waits ws e)
-waits-told ws e r is inside t h =
-    ⊎_elim
-    (λ (none : e.category ≡ 0). rw (← h, eq-eqb e.category 0 none))
-    (λ (some : 0 < e.category).
-    let low = le-leb 1 e.category some in
-    let high = le-leb e.category (categories ws) inside in
-    let there = category-there ws e.category r is (and_both (leb 1 e.category) (leb e.category (categories ws)) low high) in
-    let unclosed = sym (not-not (eqb (category_of ws e.category).closed 0)) in
-    rw (← h, ap (λ (x : Category). x.closed) there) (ap (λ (b : Bool). one_if (not (eqb e.category 0) && b)) unclosed))
-    (eq-zero-or-pos e.category)
-
 -- the numbers of a statement within the limits of a book
-pub record StatementWithin (s : Statement) : Type 0 where
+pub record StatementWithin (s : StatementReply) : Type 0 where
   pub elements_most : s.elements ≤ most_elements
   pub waiting_most : s.waiting ≤ most_elements
   pub operation_most : s.operation ≤ most_emissions

@@ -1,69 +1,45 @@
 -- What the tests of a call say as the grounds of its definition. Assumes nothing.
-use mathlib.Core.Bool.{Bool, true, false, cond, not}
+use mathlib.Core.Bool.{Bool, true, false}
 use mathlib.Core.List.{List}
 use mathlib.Core.Path.{◌≡◌, sym, ◌∙◌, refl, ap}
 use Prim.Native.Nat.{ℕ, zero, suc, ◌-◌, ◌<◌}
 use native.Mathlib.Omega.{arith}
-use borrow.Author.Tests.{not-true, not-false}
+use Rattle.std.proofs.Common.{Result, Ok, Err}
+use Rattle.std.specs.Result.{IsErrAnd}
 use Rattle.apportion.specs.Grounds.{accepted, first_of}
+use Rattle.apportion.specs.Refusals.{number_of}
+use Rattle.apportion.specs.declared.refusing.Refusal.{Refusal}
 use Rattle.book_words.specs.Book.{entries, entry_at, entry_of, categories}
 use Rattle.book_words.specs.Measures.{between}
 use Rattle.book_words.specs.Inner.Steps.{numbered_entry, numbered_category}
 use Rattle.book_words.specs.Soundness.{sound, entries_fine, entry_fine}
-use Rattle.book_words.specs.Totals.{sums_of}
 use Rattle.book_words.specs.declared.records.Category.{Category}
 use Rattle.book_words.specs.declared.records.Entry.{Entry}
-use Rattle.book_words.specs.declared.totals.Sums.{Sums}
-use Rattle.book.specs.declared.replies.Counted.{Counted}
-use Rattle.book.specs.declared.replies.Reply.{Reply}
-use Rattle.book.specs.Calls.{reply_of, strike_grounds_in, strike_grounds, strike_refusal}
+use Rattle.book.specs.Calls.{strike_grounds_in, strike_grounds, strike_refusal}
+use Rattle.book.specs.Replies.{refusal_alone, reply_of, reply_in}
 use Rattle.apportion.proofs.Grounds.{grounds_after}
+use Rattle.apportion.proofs.Refusals.{number-some}
 use Rattle.book_words.proofs.EveryPlace.{every-at}
 use Rattle.book_words.proofs.SoundTests.{sound-parts}
 use Rattle.book_words.proofs.NumberedRecords.{sound-grounds}
 use Rattle.book_words.proofs.Ranges.{between-low, between-high}
 use Rattle.book_words.proofs.RecordRules.{entry-inside}
 
--- what a test of the code gave, as what it tests
-pub was-false : {t b : Bool} → t ≡ b → not t ≡ true → b ≡ false
-was-false {t} is e = sym is ∙ not-true t e
-
-pub was-true : {t b : Bool} → t ≡ b → not t ≡ false → b ≡ true
-was-true {t} is e = sym is ∙ not-false t e
-
--- the reply of a refused call
-abbrev refused_reply : ℕ → Reply
-refused_reply n = record { refusal = n; number = 0 }
-
--- ground 1 on a book that the test found unsound: the number, or the reply, and the book
-module _ (rest : ℕ) (new : List ℕ) {ws : List ℕ} {t : Bool} (is : t ≡ sound ws) (e : not t ≡ true) where
-  pub unsound-alone : (1 ≡ cond (not (sound ws)) 1 rest) × (ws ≡ accepted (cond (not (sound ws)) 1 rest) new ws)
-  unsound-alone = rw (was-false is e) (refl, refl)
-
-  pub unsound-refused : (number : ℕ) {r : Reply} → r ≡ refused_reply 1
-      → (r ≡ reply_of (cond (not (sound ws)) 1 rest) number) × (ws ≡ accepted (cond (not (sound ws)) 1 rest) new ws)
-  unsound-refused number gave = rw (was-false is e) (gave, refl)
+-- the reply of an answer that a refusal is handed on in
+pub reply-handed : (r : Refusal) (answer : Result ℕ Refusal) → IsErrAnd answer (λ e. e ≡ r) → reply_in answer ≡ refusal_alone (number_of r)
+reply-handed r (Ok n) h = absurd h
+reply-handed r (Err e) h = rw h
 
 -- the reply of a refused call and its book
-pub call-refused : (number : ℕ) (new : List ℕ) {r : Reply} {n m : ℕ} {old : List ℕ} → r ≡ refused_reply n → n ≡ m → (n ≡ 0 → ⊥)
-    → (r ≡ reply_of m number) × (old ≡ accepted m new old)
-call-refused number new {m = zero} e is ne = absurd (ne is)
-call-refused number new {m = suc m} e is ne = (rw (e, is), refl)
-
--- the same, with the sums that are left as they were
-pub counted-refused : (number : ℕ) (new : List ℕ) {r : Counted} {n m : ℕ} {old : List ℕ} {sums : Sums}
-    → r ≡ record { reply = refused_reply n; sums = sums } → n ≡ m → (n ≡ 0 → ⊥) → sums ≡ sums_of old
-    → (r.reply ≡ reply_of m number) × ((old ≡ accepted m new old) × (r.sums ≡ sums_of old))
-counted-refused number new e is ne known =
-    let call = call-refused number new (ap (λ (x : Counted). x.reply) e) is ne in
-    (call.0, (call.1, ap (λ (x : Counted). x.sums) e ∙ known))
+pub call-refused : (number : ℕ) (new : List ℕ) (r : Refusal) {m : ℕ} {old : List ℕ} → number_of r ≡ m
+    → (refusal_alone (number_of r) ≡ reply_of m number) × (old ≡ accepted m new old)
+call-refused number new r {m = zero} is = absurd (number-some r is)
+call-refused number new r {m = suc m} is = (rw is, refl)
 
 -- the reply of an accepted call and its book
-pub call-accepted : (number : ℕ) (old : List ℕ) {r : Reply} {n m : ℕ} {new after : List ℕ} → n ≡ m → n ≡ 0 → (r ≡ reply_of 0 number) × (after ≡ new)
-    → (r ≡ reply_of m number) × (after ≡ accepted m new old)
-call-accepted number old is none made =
-    let zeroth = sym is ∙ none in
-    (rw zeroth made.0, rw zeroth made.1)
+pub call-accepted : (number : ℕ) (old : List ℕ) {n m : ℕ} {new after : List ℕ} → 0 ≡ m → (n ≡ number) × (after ≡ new)
+    → (reply_of 0 n ≡ reply_of m number) × (after ≡ accepted m new old)
+call-accepted number old none made = rw (sym none) (ap (reply_of 0) made.0, made.1)
 
 -- in a sound book the category of a numbered entry is numbered
 entry-category : (ws : List ℕ) (entry : ℕ) → sound ws ≡ true → between 1 (entries ws) entry ≡ true

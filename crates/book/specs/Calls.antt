@@ -19,16 +19,7 @@ use Rattle.book_words.specs.declared.records.Entry.{Entry}
 use Rattle.book.specs.declared.arguments.EnrolArguments.{EnrolArguments}
 use Rattle.book.specs.declared.arguments.PostArguments.{PostArguments}
 use Rattle.book.specs.declared.arguments.QuoteArguments.{QuoteArguments}
-use Rattle.book.specs.declared.replies.Reply.{Reply}
-
--- a reply that is a refusal number alone, as a strike and a closing have it in a list of calls: "fresh, strike and close return
--- nothing more"; and as a line has it that its cells refuse
-abbrev pub refusal_alone : ℕ → Reply
-refusal_alone refusal = record { refusal = refusal; number = 0 }
-
--- "A refusal returns its number with zeros": the reply of a call that returns a record's number
-abbrev pub reply_of : ℕ → ℕ → Reply
-reply_of refusal number = record { refusal = refusal; number = accepted refusal number 0 }
+use Rattle.book.specs.Replies.{Reply, reply_of}
 
 -- "**Fresh**: the 2,404 words become 0, then word 0 is set."; "The book becomes 2,660 words."
 unfoldable pub cleared : List ℕ → List ℕ

@@ -4,7 +4,7 @@ use Rattle.std.specs.Prelude.{List, ℕ, ◌+◌}
 use Rattle.apportion.specs.Places.{sum_below, one_if}
 use Rattle.book_words.specs.Book.{elements, element_at}
 use Rattle.book_words.specs.declared.records.Element.{Element}
-use Rattle.book.specs.declared.replies.Statement.{Statement}
+use Rattle.book.specs.Statements.{StatementReply}
 use Rattle.book.specs.Statements.{waits}
 
 -- the sum of a number of each record over "the book's element records"
@@ -12,7 +12,7 @@ abbrev pub over_elements : List ℕ → (Element → ℕ) → ℕ
 over_elements ws number = sum_below (elements ws) (λ p. number (element_at ws p))
 
 -- the five sums, under the names that a statement has for them; an element waits as in a statement
-unfoldable pub class_total : List ℕ → Statement
+unfoldable pub class_total : List ℕ → StatementReply
 class_total ws =
     record {
       refusal = 0;

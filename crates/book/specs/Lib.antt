@@ -1,4 +1,5 @@
 -- What a reader has to believe. `Inner` serves the contracts of inner functions.
+pub mod Replies
 pub mod Calls
 pub mod Lines
 pub mod Statements

@@ -5,8 +5,8 @@ use Rattle.workbook.specs.Cells.{cell_value}
 use Rattle.workbook.specs.Lines.{line_refusal}
 use Rattle.book.specs.declared.arguments.LineArguments.{LineArguments}
 use Rattle.book.specs.declared.arguments.PostArguments.{PostArguments}
-use Rattle.book.specs.declared.replies.Reply.{Reply}
-use Rattle.book.specs.Calls.{refusal_alone, post_reply, post_book}
+use Rattle.book.specs.Replies.{Reply, refusal_alone}
+use Rattle.book.specs.Calls.{post_reply, post_book}
 
 -- the post "of its converted cells": thousandths of a unit, and of grams per unit, which are mg per unit
 abbrev pub line_post : LineArguments → PostArguments

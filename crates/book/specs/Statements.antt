@@ -1,6 +1,6 @@
 -- "**Statement** (chain) returns, counted and added over the elements of that chain alone, elements, waiting (those in open
 -- categories), operation, provision, total (operation plus provision); zeros for an unused chain." Assumes nothing.
-use Rattle.std.specs.Prelude.{Bool, cond, not, ◌&&◌, List, ◌∷◌, [], ℕ, ◌+◌, eqb}
+use Rattle.std.specs.Prelude.{Result, Ok, Err, Bool, cond, not, ◌&&◌, List, ◌∷◌, [], ℕ, ◌+◌, eqb}
 use Rattle.apportion.specs.Grounds.{Ground, first_of, accepted}
 use Rattle.apportion.specs.Places.{sum_below, count_below}
 use Rattle.book_words.specs.Book.{elements, element_at, is_closed}
@@ -10,7 +10,18 @@ use Rattle.book_words.specs.declared.totals.Side.{Side}
 use Rattle.book_words.specs.declared.totals.Side.TheVariants.{Operation as operation, Provision as provision}
 use Rattle.book_words.specs.Totals.{share_of}
 use Rattle.book_words.specs.declared.records.Element.{Element}
+use Rattle.apportion.specs.Refusals.{number_of}
+use Rattle.apportion.specs.declared.refusing.Refusal.{Refusal}
 use Rattle.book.specs.declared.replies.Statement.{Statement}
+
+-- what a statement returns: its refusal number, and the numbers beside it
+pub record StatementReply : Type 0 where
+  pub refusal : ℕ
+  pub elements : ℕ
+  pub waiting : ℕ
+  pub operation : ℕ
+  pub provision : ℕ
+  pub total : ℕ
 
 -- an element of this chain
 abbrev pub of_chain : ℕ → Element → Bool
@@ -31,7 +42,7 @@ unfoldable pub shares_over : List ℕ → (Element → Bool) → Side → ℕ
 shares_over ws test side = sum_below (elements ws) (λ p. cond (test (element_at ws p)) (share_of side (element_at ws p)) 0)
 
 -- "elements, waiting (those in open categories), operation, provision, total (operation plus provision)", over these elements
-abbrev pub statement_over : List ℕ → (Element → Bool) → Statement
+abbrev pub statement_over : List ℕ → (Element → Bool) → StatementReply
 statement_over ws test =
     record {
       refusal = 0;
@@ -52,14 +63,30 @@ unfoldable pub statement_refusal : List ℕ → ℕ → ℕ
 statement_refusal ws chain = first_of (statement_grounds ws chain)
 
 -- what an accepted statement answers, "over the elements of that chain alone"
-unfoldable pub statement_of : List ℕ → ℕ → Statement
+unfoldable pub statement_of : List ℕ → ℕ → StatementReply
 statement_of ws chain = statement_over ws (of_chain chain)
 
 -- zeros beside this refusal number; "A refusal returns its number with zeros"
-abbrev pub zeros_beside : ℕ → Statement
+abbrev pub zeros_beside : ℕ → StatementReply
 zeros_beside refusal =
     record { refusal = refusal; elements = 0; waiting = 0; operation = 0; provision = 0; total = 0 }
 
-unfoldable pub statement_reply : List ℕ → ℕ → Statement
+unfoldable pub statement_reply : List ℕ → ℕ → StatementReply
 statement_reply ws chain =
     accepted (statement_refusal ws chain) (statement_of ws chain) (zeros_beside (statement_refusal ws chain))
+
+-- what an answer returns, for each of its cases
+abbrev pub reply_with : Statement → StatementReply
+reply_with s =
+    record {
+      refusal = 0;
+      elements = s.elements;
+      waiting = s.waiting;
+      operation = s.operation;
+      provision = s.provision;
+      total = s.total;
+    }
+
+abbrev pub statement_reply_in : Result Statement Refusal → StatementReply
+statement_reply_in (Ok s) = reply_with s
+statement_reply_in (Err refusal) = zeros_beside (number_of refusal)

@@ -5,7 +5,7 @@ use Rattle.book_words.specs.Book.{element_at, elements}
 use Rattle.book_words.specs.declared.totals.Side.TheVariants.{Operation as operation, Provision as provision}
 use Rattle.book_words.specs.Totals.{share_of}
 use Rattle.book_words.specs.declared.records.Element.{Element}
-use Rattle.book.specs.declared.replies.Statement.{Statement}
+use Rattle.book.specs.Statements.{StatementReply}
 use Rattle.book.specs.declared.walks.Held.{Held}
 use Rattle.book.specs.Statements.{of_chain, waits, statement_reply}
 
@@ -42,7 +42,7 @@ walk_over ws test zero = nothing
 walk_over ws test (suc k) = held_with ws test (walk_over ws test k) (element_at ws k)
 
 -- "what it then holds, with the total"
-abbrev pub with_total : Held → Statement
+abbrev pub with_total : Held → StatementReply
 with_total held =
     record {
       refusal = 0;

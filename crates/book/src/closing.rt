@@ -1,14 +1,30 @@
 // Close: the pools of a category are handed out.
 ghost use Rattle.std.specs.Prelude.{◌≡◌};
+ghost use Rattle.apportion.specs.Refusals.{refusal_in};
 ghost use Rattle.book_shares.specs.Closing.{close_refusal, close_book};
 
-// Closes the category of this number, and answers the refusal number.
-pub fn close(book: &mut [u64], category: u64) -> u64
-    ensures value { result ≡ close_refusal book.old category }
+use crate::sound_books::SoundBook;
+use apportion::Refusal;
+
+// Closes the category of this number.
+#[tactic(auto, unfolding(book_shares::specs::Closing::close_refusal, book_shares::specs::Closing::close_book))]
+pub fn close(book: &mut [u64], category: u64) -> Result<(), Refusal>
+    ensures value { refusal_in result ≡ close_refusal book.old category }
     ensures book_after { book.new ≡ close_book book.old category }
 {
     if !book_words::is_sound(book) {
-        return 1;
+        return Err(Refusal::Unfit);
     }
     book_shares::close_sound(book, category)
+}
+
+impl SoundBook<'_> {
+    // The same on a book that is known to be sound.
+    pub fn close(&mut self, category: u64) -> Result<(), Refusal>
+        ensures value { refusal_in result ≡ close_refusal self.old.words.now category }
+        ensures book_after { self.new.words.now ≡ close_book self.old.words.now category }
+        ensures same_words { self.new.words.ghost_name ≡ self.old.words.ghost_name }
+    {
+        book_shares::close_sound(self.words, category)
+    }
 }

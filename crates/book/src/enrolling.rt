@@ -2,50 +2,61 @@
 ghost use Rattle.std.specs.Prelude.{true, ◌≡◌};
 ghost use Rattle.apportion.specs.Grounds.{first_of};
 ghost use Rattle.apportion.specs.Inner.Grounds.{grounds_before};
+ghost use Rattle.apportion.specs.Refusals.{refusal_in};
 ghost use Rattle.book_words.specs.Measures.{is_code};
 ghost use Rattle.book_words.specs.Soundness.{sound};
 ghost use Rattle.book_words.specs.Totals.{sums_of};
 ghost use Rattle.book.specs.Calls.{enrol_reply, enrol_book, enrol_in_range, enrol_grounds, enrolled_element};
+ghost use Rattle.book.specs.Replies.{reply_in};
 
+use crate::appending;
 use crate::arguments::EnrolArguments;
-use crate::replies::{Counted, Reply};
-use crate::{appending, replies};
-use apportion::first_of;
+use crate::sound_books::SoundBook;
+use apportion::{Refusal, first_of};
 use book_words::{Category, Element, Sums};
 
 // Enrols an element in a category, and answers its number.
-pub fn enrol(book: &mut [u64], e: EnrolArguments) -> Reply
-    ensures value { result ≡ enrol_reply book.old e }
+#[tactic(auto, unfolding(crate::specs::Calls::enrol_refusal, crate::specs::Calls::enrol_reply, crate::specs::Calls::enrol_book))]
+pub fn enrol(book: &mut [u64], e: EnrolArguments) -> Result<u64, Refusal>
+    ensures value { reply_in result ≡ enrol_reply book.old e }
     ensures book_after { book.new ≡ enrol_book book.old e }
 {
     if !book_words::is_sound(book) {
-        return replies::refusal_alone(1);
+        return Err(Refusal::Unfit);
     }
-    let sums = book_words::sums_of(book);
-    let counted = enrol_sound(book, sums, e);
-    counted.reply
+    let mut sums = book_words::sums_of(book);
+    enrol_sound(book, &mut sums, e)
 }
 
 // The same on a book that is known to be sound and whose sums are known.
-pub fn enrol_sound(book: &mut [u64], sums: Sums, e: EnrolArguments) -> Counted
+fn enrol_sound(book: &mut [u64], sums: &mut Sums, e: EnrolArguments) -> Result<u64, Refusal>
     requires book_value { sound book.old ≡ true }
-    requires sums_value { sums ≡ sums_of book.old }
-    ensures reply_value { result.reply ≡ enrol_reply book.old e }
+    requires sums_value { sums.old ≡ sums_of book.old }
+    ensures value { reply_in result ≡ enrol_reply book.old e }
     ensures book_after { book.new ≡ enrol_book book.old e }
-    ensures sums_value_2 { result.sums ≡ sums_of book.new }
+    ensures sums_after { sums.new ≡ sums_of book.new }
 {
-    let refusal = refusal_number(book, e);
-    if refusal != 0 {
-        return replies::refused_with(refusal, sums);
-    }
+    check_grounds(book, e)?;
     let category = book_words::numbered_category(book, e.category);
     appending::admit_element(book, sums, enrolled(category, e))
 }
 
-// The number of the first ground before 10 that holds, or 0.
-fn refusal_number(book: &[u64], e: EnrolArguments) -> u64
+impl SoundBook<'_> {
+    // The same.
+    pub fn enrol(&mut self, e: EnrolArguments) -> Result<u64, Refusal>
+        ensures value { reply_in result ≡ enrol_reply self.old.words.now e }
+        ensures book_after { self.new.words.now ≡ enrol_book self.old.words.now e }
+        ensures same_words { self.new.words.ghost_name ≡ self.old.words.ghost_name }
+    {
+        enrol_sound(self.words, &mut self.sums, e)
+    }
+}
+
+// The grounds before 10.
+#[tactic(auto, using(crate::proofs::SoundLength::sound_long))]
+fn check_grounds(book: &[u64], e: EnrolArguments) -> Result<(), Refusal>
     requires { sound book.now ≡ true }
-    ensures { result ≡ first_of (grounds_before 10 (enrol_grounds book.now e)) }
+    ensures { refusal_in result ≡ first_of (grounds_before 10 (enrol_grounds book.now e)) }
 {
     let categories = book[book_words::CATEGORIES];
     let elements = book[book_words::ELEMENTS];
@@ -57,18 +68,15 @@ fn refusal_number(book: &[u64], e: EnrolArguments) -> u64
     let mixed = book_words::mixes(book, e.category, e.code, e.kg_per_head);
     let out_of_range = !enrol_in_range(category, e);
     let full = book_words::MOST_ELEMENTS <= elements;
-    first_of(
-        &[2, 3, 4, 6, 14, 7, 8],
-        &[
-            unnumbered,
-            unknown,
-            closed,
-            unsuited,
-            mixed,
-            out_of_range,
-            full,
-        ],
-    )
+    first_of(&[
+        (Refusal::Unnumbered, unnumbered),
+        (Refusal::Unknown, unknown),
+        (Refusal::Closed, closed),
+        (Refusal::Unsuited, unsuited),
+        (Refusal::Mixed, mixed),
+        (Refusal::OutOfRange, out_of_range),
+        (Refusal::Full, full),
+    ])
 }
 
 // The amount, the distance and the kg per head are in range.

@@ -1,21 +1,18 @@
 // Line: a line of a workbook is posted.
 ghost use Rattle.std.specs.Prelude.{◌≡◌};
 ghost use Rattle.book.specs.Lines.{line_reply, line_book};
+ghost use Rattle.book.specs.Replies.{reply_in};
 
 use crate::arguments::{LineArguments, PostArguments};
-use crate::replies::Reply;
-use crate::{posting, replies};
+use crate::posting;
+use apportion::Refusal;
 
 // Posts the converted cells of a line to a category and group, and answers the entry's number. Its cells are judged before the book.
-pub fn post_line(book: &mut [u64], l: LineArguments) -> Reply
-    ensures value { result ≡ line_reply book.old l }
+pub fn post_line(book: &mut [u64], l: LineArguments) -> Result<u64, Refusal>
+    ensures value { reply_in result ≡ line_reply book.old l }
     ensures book_after { book.new ≡ line_book book.old l }
 {
-    let line = l.line;
-    let converted = workbook::convert(line);
-    if converted.refusal != 0 {
-        return replies::refusal_alone(converted.refusal);
-    }
+    let converted = workbook::convert(l.line)?;
     let p = PostArguments {
         category: l.category,
         group: l.group,

@@ -1,44 +1,56 @@
 // Open: appends a category.
 ghost use Rattle.std.specs.Prelude.{true, ◌≡◌};
 ghost use Rattle.book_words.specs.Soundness.{sound};
+ghost use Rattle.apportion.specs.Refusals.{refusal_in};
 ghost use Rattle.book.specs.Calls.{open_reply, open_book, open_refusal};
+ghost use Rattle.book.specs.Replies.{reply_in};
 
-use crate::replies::Reply;
-use crate::{appending, replies};
-use apportion::first_of;
+use crate::appending;
+use crate::sound_books::SoundBook;
+use apportion::{Refusal, first_of};
 use book_words::Category;
 
 // Opens a category of this kind, and answers its number.
-pub fn open(book: &mut [u64], kind: u64) -> Reply
-    ensures value { result ≡ open_reply book.old kind }
+#[tactic(auto, unfolding(crate::specs::Calls::open_refusal, crate::specs::Calls::open_reply, crate::specs::Calls::open_book))]
+pub fn open(book: &mut [u64], kind: u64) -> Result<u64, Refusal>
+    ensures value { reply_in result ≡ open_reply book.old kind }
     ensures book_after { book.new ≡ open_book book.old kind }
 {
     if !book_words::is_sound(book) {
-        return replies::refusal_alone(1);
+        return Err(Refusal::Unfit);
     }
     open_sound(book, kind)
 }
 
 // The same on a book that is known to be sound.
-pub fn open_sound(book: &mut [u64], kind: u64) -> Reply
+fn open_sound(book: &mut [u64], kind: u64) -> Result<u64, Refusal>
     requires { sound book.old ≡ true }
-    ensures value { result ≡ open_reply book.old kind }
+    ensures value { reply_in result ≡ open_reply book.old kind }
     ensures book_after { book.new ≡ open_book book.old kind }
 {
-    let refusal = refusal_number(book, kind);
-    if refusal != 0 {
-        return replies::refusal_alone(refusal);
-    }
-    appending::add_category(book, Category { kind, closed: 0 })
+    check_grounds(book, kind)?;
+    Ok(appending::add_category(book, Category { kind, closed: 0 }))
 }
 
-// The number of the first ground that holds, or 0.
-fn refusal_number(book: &[u64], kind: u64) -> u64
+impl SoundBook<'_> {
+    // The same.
+    pub fn open(&mut self, kind: u64) -> Result<u64, Refusal>
+        ensures value { reply_in result ≡ open_reply self.old.words.now kind }
+        ensures book_after { self.new.words.now ≡ open_book self.old.words.now kind }
+        ensures same_words { self.new.words.ghost_name ≡ self.old.words.ghost_name }
+    {
+        open_sound(self.words, kind)
+    }
+}
+
+// The grounds of an opening.
+#[tactic(auto, using(crate::proofs::SoundLength::sound_long))]
+fn check_grounds(book: &[u64], kind: u64) -> Result<(), Refusal>
     requires { sound book.now ≡ true }
-    ensures { result ≡ open_refusal book.now kind }
+    ensures { refusal_in result ≡ open_refusal book.now kind }
 {
     let categories = book[book_words::CATEGORIES];
     let unknown = !book_words::is_kind(kind);
     let full = book_words::MOST_CATEGORIES <= categories;
-    first_of(&[3, 8], &[unknown, full])
+    first_of(&[(Refusal::Unknown, unknown), (Refusal::Full, full)])
 }

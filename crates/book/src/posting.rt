@@ -2,15 +2,17 @@
 ghost use Rattle.std.specs.Prelude.{true, ◌≡◌};
 ghost use Rattle.apportion.specs.Grounds.{first_of};
 ghost use Rattle.apportion.specs.Inner.Grounds.{grounds_before};
+ghost use Rattle.apportion.specs.Refusals.{refusal_in};
 ghost use Rattle.book_words.specs.Soundness.{sound};
 ghost use Rattle.book_words.specs.Totals.{sums_of};
 ghost use Rattle.book.specs.Inner.Appending.{cap_amounts};
 ghost use Rattle.book.specs.Calls.{post_reply, post_book, post_grounds, posted_entry};
+ghost use Rattle.book.specs.Replies.{reply_in};
 
+use crate::appending;
 use crate::arguments::PostArguments;
-use crate::replies::{Counted, Reply};
-use crate::{appending, replies};
-use apportion::first_of;
+use crate::sound_books::SoundBook;
+use apportion::{Refusal, first_of};
 use book_words::{Entry, Sums};
 
 // The largest quantity, 10^12 thousandths of a unit.
@@ -20,37 +22,46 @@ const MOST_QUANTITY: u64 = 1_000_000_000_000;
 const MOST_FACTOR: u64 = 10_000_000_000;
 
 // Posts quantity × factor to a category and group, and answers the entry's number.
-pub fn post(book: &mut [u64], p: PostArguments) -> Reply
-    ensures value { result ≡ post_reply book.old p }
+#[tactic(auto, unfolding(crate::specs::Calls::post_refusal, crate::specs::Calls::post_reply, crate::specs::Calls::post_book))]
+pub fn post(book: &mut [u64], p: PostArguments) -> Result<u64, Refusal>
+    ensures value { reply_in result ≡ post_reply book.old p }
     ensures book_after { book.new ≡ post_book book.old p }
 {
     if !book_words::is_sound(book) {
-        return replies::refusal_alone(1);
+        return Err(Refusal::Unfit);
     }
-    let sums = book_words::sums_of(book);
-    let counted = post_sound(book, sums, p);
-    counted.reply
+    let mut sums = book_words::sums_of(book);
+    post_sound(book, &mut sums, p)
 }
 
 // The same on a book that is known to be sound and whose sums are known.
-pub fn post_sound(book: &mut [u64], sums: Sums, p: PostArguments) -> Counted
+fn post_sound(book: &mut [u64], sums: &mut Sums, p: PostArguments) -> Result<u64, Refusal>
     requires book_value { sound book.old ≡ true }
-    requires sums_value { sums ≡ sums_of book.old }
-    ensures reply_value { result.reply ≡ post_reply book.old p }
+    requires sums_value { sums.old ≡ sums_of book.old }
+    ensures value { reply_in result ≡ post_reply book.old p }
     ensures book_after { book.new ≡ post_book book.old p }
-    ensures sums_value_2 { result.sums ≡ sums_of book.new }
+    ensures sums_after { sums.new ≡ sums_of book.new }
 {
-    let refusal = refusal_number(book, p);
-    if refusal != 0 {
-        return replies::refused_with(refusal, sums);
-    }
+    check_grounds(book, p)?;
     appending::admit_entry(book, sums, posted(p))
 }
 
-// The number of the first ground before 10 that holds, or 0.
-fn refusal_number(book: &[u64], p: PostArguments) -> u64
+impl SoundBook<'_> {
+    // The same.
+    pub fn post(&mut self, p: PostArguments) -> Result<u64, Refusal>
+        ensures value { reply_in result ≡ post_reply self.old.words.now p }
+        ensures book_after { self.new.words.now ≡ post_book self.old.words.now p }
+        ensures same_words { self.new.words.ghost_name ≡ self.old.words.ghost_name }
+    {
+        post_sound(self.words, &mut self.sums, p)
+    }
+}
+
+// The grounds before 10.
+#[tactic(auto, using(crate::proofs::SoundLength::sound_long))]
+fn check_grounds(book: &[u64], p: PostArguments) -> Result<(), Refusal>
     requires { sound book.now ≡ true }
-    ensures { result ≡ first_of (grounds_before 10 (post_grounds book.now p)) }
+    ensures { refusal_in result ≡ first_of (grounds_before 10 (post_grounds book.now p)) }
 {
     let categories = book[book_words::CATEGORIES];
     let entries = book[book_words::ENTRIES];
@@ -63,10 +74,14 @@ fn refusal_number(book: &[u64], p: PostArguments) -> u64
         & (p.operation_factor <= MOST_FACTOR)
         & (p.provision_factor <= MOST_FACTOR));
     let full = book_words::MOST_ENTRIES <= entries;
-    first_of(
-        &[2, 3, 4, 6, 7, 8],
-        &[unnumbered, unknown, closed, unsuited, out_of_range, full],
-    )
+    first_of(&[
+        (Refusal::Unnumbered, unnumbered),
+        (Refusal::Unknown, unknown),
+        (Refusal::Closed, closed),
+        (Refusal::Unsuited, unsuited),
+        (Refusal::OutOfRange, out_of_range),
+        (Refusal::Full, full),
+    ])
 }
 
 // The entry that a post appends, its amounts capped.

@@ -3,17 +3,19 @@ ghost use Rattle.std.specs.Prelude.{true, ◌≡◌, ◌*◌};
 ghost use Rattle.apportion.specs.Fractions.{nearest};
 ghost use Rattle.apportion.specs.Grounds.{first_of};
 ghost use Rattle.apportion.specs.Inner.Grounds.{grounds_before};
+ghost use Rattle.apportion.specs.Refusals.{refusal_in};
 ghost use Rattle.book_words.specs.Measures.{is_distance, is_intensity};
 ghost use Rattle.book_words.specs.Soundness.{sound};
 ghost use Rattle.book_words.specs.Totals.{sums_of};
 ghost use Rattle.book_words.specs.Inner.Steps.{capped};
 ghost use Rattle.book.specs.Inner.Appending.{cap_shares};
 ghost use Rattle.book.specs.Calls.{quote_reply, quote_book, quote_in_range, quote_grounds, quoted_element, adjusted};
+ghost use Rattle.book.specs.Replies.{reply_in};
 
+use crate::appending;
 use crate::arguments::QuoteArguments;
-use crate::replies::{Counted, Reply};
-use crate::{appending, replies};
-use apportion::{added_by_rounding, first_of};
+use crate::sound_books::SoundBook;
+use apportion::{Refusal, added_by_rounding, first_of};
 use book_words::{Element, Sums};
 
 // The largest intensity, 10^9 mg per tonne-km.
@@ -23,37 +25,46 @@ const MOST_INTENSITY: u64 = 1_000_000_000;
 const AIR_DISTANCE: u64 = 95_000;
 
 // Quotes a chain's element by two intensities, and answers its number.
-pub fn quote(book: &mut [u64], q: QuoteArguments) -> Reply
-    ensures value { result ≡ quote_reply book.old q }
+#[tactic(auto, unfolding(crate::specs::Calls::quote_refusal, crate::specs::Calls::quote_reply, crate::specs::Calls::quote_book))]
+pub fn quote(book: &mut [u64], q: QuoteArguments) -> Result<u64, Refusal>
+    ensures value { reply_in result ≡ quote_reply book.old q }
     ensures book_after { book.new ≡ quote_book book.old q }
 {
     if !book_words::is_sound(book) {
-        return replies::refusal_alone(1);
+        return Err(Refusal::Unfit);
     }
-    let sums = book_words::sums_of(book);
-    let counted = quote_sound(book, sums, q);
-    counted.reply
+    let mut sums = book_words::sums_of(book);
+    quote_sound(book, &mut sums, q)
 }
 
 // The same on a book that is known to be sound and whose sums are known.
-pub fn quote_sound(book: &mut [u64], sums: Sums, q: QuoteArguments) -> Counted
+fn quote_sound(book: &mut [u64], sums: &mut Sums, q: QuoteArguments) -> Result<u64, Refusal>
     requires book_value { sound book.old ≡ true }
-    requires sums_value { sums ≡ sums_of book.old }
-    ensures reply_value { result.reply ≡ quote_reply book.old q }
+    requires sums_value { sums.old ≡ sums_of book.old }
+    ensures value { reply_in result ≡ quote_reply book.old q }
     ensures book_after { book.new ≡ quote_book book.old q }
-    ensures sums_value_2 { result.sums ≡ sums_of book.new }
+    ensures sums_after { sums.new ≡ sums_of book.new }
 {
-    let refusal = refusal_number(book, q);
-    if refusal != 0 {
-        return replies::refused_with(refusal, sums);
-    }
+    check_grounds(book, q)?;
     appending::admit_element(book, sums, quoted(q))
 }
 
-// The number of the first ground before 10 that holds, or 0.
-fn refusal_number(book: &[u64], q: QuoteArguments) -> u64
+impl SoundBook<'_> {
+    // The same.
+    pub fn quote(&mut self, q: QuoteArguments) -> Result<u64, Refusal>
+        ensures value { reply_in result ≡ quote_reply self.old.words.now q }
+        ensures book_after { self.new.words.now ≡ quote_book self.old.words.now q }
+        ensures same_words { self.new.words.ghost_name ≡ self.old.words.ghost_name }
+    {
+        quote_sound(self.words, &mut self.sums, q)
+    }
+}
+
+// The grounds before 10.
+#[tactic(auto, using(crate::proofs::SoundLength::sound_long))]
+fn check_grounds(book: &[u64], q: QuoteArguments) -> Result<(), Refusal>
     requires { sound book.now ≡ true }
-    ensures { result ≡ first_of (grounds_before 10 (quote_grounds book.now q)) }
+    ensures { refusal_in result ≡ first_of (grounds_before 10 (quote_grounds book.now q)) }
 {
     let elements = book[book_words::ELEMENTS];
     let unknown = !(book_words::is_chain(q.chain) & (q.adjust <= 1));
@@ -62,7 +73,11 @@ fn refusal_number(book: &[u64], q: QuoteArguments) -> u64
         & (q.operation_intensity <= MOST_INTENSITY)
         & (q.provision_intensity <= MOST_INTENSITY));
     let full = book_words::MOST_ELEMENTS <= elements;
-    first_of(&[3, 7, 8], &[unknown, out_of_range, full])
+    first_of(&[
+        (Refusal::Unknown, unknown),
+        (Refusal::OutOfRange, out_of_range),
+        (Refusal::Full, full),
+    ])
 }
 
 // The element that a quote appends, its shares capped.

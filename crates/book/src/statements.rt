@@ -1,38 +1,38 @@
 // Statement: what the elements of a chain got, in one walk over the elements.
 ghost use Rattle.std.specs.Prelude.{true, ◌≡◌};
 ghost use Rattle.book_words.specs.Soundness.{sound};
-ghost use Rattle.book.specs.Statements.{statement_of, statement_reply};
+ghost use Rattle.book.specs.Statements.{statement_of, statement_reply, statement_reply_in, reply_with};
 
 use crate::replies::Statement;
-use crate::{replies, walks};
+use crate::walks;
+use apportion::Refusal;
 
 // The statement of a chain.
-pub fn statement(book: &[u64], chain: u64) -> Statement
-    ensures { result ≡ statement_reply book.now chain }
+#[tactic(auto, unfolding(crate::specs::Statements::statement_reply, crate::specs::Statements::statement_refusal))]
+pub fn statement(book: &[u64], chain: u64) -> Result<Statement, Refusal>
+    ensures { statement_reply_in result ≡ statement_reply book.now chain }
 {
     if !book_words::is_sound(book) {
-        return replies::zeros_beside(1);
+        return Err(Refusal::Unfit);
     }
     if !book_words::is_chain(chain) {
-        return replies::zeros_beside(3);
+        return Err(Refusal::Unknown);
     }
-    walk(book, chain)
+    Ok(walk(book, chain))
 }
 
 // Counts and adds over the elements of the chain, in one walk; the total is added at its end.
+#[tactic(auto, using(crate::proofs::SoundLength::sound_long))]
 fn walk(book: &[u64], chain: u64) -> Statement
     requires { sound book.now ≡ true }
-    ensures { result ≡ statement_of book.now chain }
+    ensures { reply_with result ≡ statement_of book.now chain }
 {
     let count = book[book_words::ELEMENTS];
     let mut held = walks::NOTHING;
-    let mut passed = 0;
-    while passed < count {
+    for passed in 0..count {
         held = walks::walk_on(book, chain, chain, passed, held);
-        passed += 1;
     }
     Statement {
-        refusal: 0,
         elements: held.elements,
         waiting: held.waiting,
         operation: held.operation,

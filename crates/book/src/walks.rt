@@ -61,8 +61,5 @@ fn waiting_of(book: &[u64], e: Element) -> u64
     ensures { result ≡ one_if (waits book.now e) }
 {
     let r = book_words::numbered_category(book, e.category);
-    if (e.category != 0) & (r.closed == 0) {
-        return 1;
-    }
-    0
+    u64::from((e.category != 0) & (r.closed == 0))
 }

@@ -38,12 +38,6 @@ module _ (ws file : List ℕ) where
   unfolding load_of
   header-passes = accepted-new (header_refusal (length ws) file) _ _
 
-  -- what a load that came to this answers and leaves
-  pub load_gives : {answer : Load} {book : List ℕ} → loading_of answer book ≡ load_of ws file
-      → (answer ≡ load_answer ws file) × ((numbers_of answer ≡ load_numbers ws file) × (book ≡ load_book ws file))
-  load_gives e =
-      (ap (λ (l : Loading). l.answer) e, (ap (λ (l : Loading). numbers_of l.answer) e, ap (λ (l : Loading). l.book) e))
-
   pub fresh-fine : header_refusal (length ws) file ≡ 0 → sound (fresh_book ws) ≡ true
   fresh-fine fine = fresh-sound ws (header-long (length ws) file fine)
 

@@ -7,26 +7,25 @@ use Prim.Native.Nat.{ℕ, zero, suc, ◌+◌, ◌<◌}
 use native.Mathlib.Nat.{eq-or-lt_of_le}
 use native.Mathlib.Numerals.{add-one}
 use native.Mathlib.Omega.{arith}
+use Rattle.std.proofs.Common.{Result, Ok, Err}
+use Rattle.std.specs.Result.{IsErrAnd}
 use Rattle.apportion.specs.Grounds.{accepted}
+use Rattle.apportion.specs.Refusals.{number_of, refusal_in}
+use Rattle.apportion.specs.declared.refusing.Refusal.{Refusal}
 use Rattle.apportion.specs.Places.{kept_below}
 use Rattle.apportion.proofs.Grounds.{accepted-new, refused-old, either}
 use Rattle.book_words.specs.Soundness.{sound}
-use Rattle.book_words.specs.Totals.{sums_of}
-use Rattle.book_words.specs.declared.totals.Sums.{Sums}
-use Rattle.book.specs.declared.replies.Counted.{Counted}
-use Rattle.book.specs.declared.replies.Reply.{Reply}
-use Rattle.book.proofs.Laws.{open-sums, close-sums}
+use Rattle.book.specs.Replies.{Reply, reply_in}
 use Rattle.conservation.specs.Runs.{step}
 use Rattle.conservation.proofs.Laws.{step-refused, sound-step}
 use Rattle.book_file.specs.declared.answers.Load.{Load}
 use Rattle.book_file.specs.declared.answers.Load.TheVariants.{Loaded, Stopped}
 use Rattle.book_file.specs.declared.answers.Place.{Place}
 use Rattle.book_file.specs.declared.answers.Place.TheVariants.{Header, Category, Entry, Element, Closing}
-use Rattle.book_file.specs.declared.records.CategoryRecord.{CategoryRecord}
-use Rattle.book_file.specs.declared.tables.Reached.{Reached}
+use Rattle.book_file.specs.declared.answers.Stop.{Stop}
 use Rattle.book_file.specs.Answers.{numbers_of, answer_at}
-use Rattle.book_file.specs.Inner.Steps.{made_if}
-use Rattle.book_file.specs.Loading.{Task, opening, closing, is_flagged, task_refusal, made}
+use Rattle.book_file.specs.Inner.Steps.{answer_in}
+use Rattle.book_file.specs.Loading.{Task, task_refusal, made}
 use Rattle.book_file.specs.Loading.{Loading, loading_of, unless_stopped, next_task, carried_on}
 
 -- the refusal number of a stop
@@ -46,10 +45,7 @@ pub made-stopped : (ws : List ℕ) (task : Task) (n : ℕ) → task_refusal ws t
 unfolding made answer_at
 made-stopped ws task n e = rw e
 
--- a task that ground 13 stops, and one whose call is made: a refused call leaves the book as it was
-pub made-broken : (ws : List ℕ) (task : Task) → task.broken ≡ true → made ws task ≡ loading_of (Stopped 13 task.place) ws
-made-broken ws task e = made-stopped ws task 12 (rw e)
-
+-- a task whose call is made: a refused call leaves the book as it was
 pub made-call : (ws : List ℕ) (task : Task) → task.broken ≡ false
     → made ws task ≡ loading_of (answer_at (step ws task.call).reply.refusal task.place) (step ws task.call).book
 unfolding made
@@ -67,16 +63,6 @@ pub call-made : {answer : Load} {ws' : List ℕ} {n : ℕ} (ws : List ℕ) (task
     → loading_of answer ws' ≡ made ws task
 call-made ws task whole gave is = rw (is, gave.0, gave.1) (sym (made-call ws task whole))
 
--- and of a call that gave sums too
-pub counted-made : {reached : Reached} {counted : Counted} {ws' : List ℕ} (ws : List ℕ) (task : Task) → task.broken ≡ false
-    → (counted.reply ≡ (step ws task.call).reply) × ((ws' ≡ (step ws task.call).book) × (counted.sums ≡ sums_of ws'))
-    → reached ≡ record { answer = answer_at counted.reply.refusal task.place; sums = counted.sums }
-    → (loading_of reached.answer ws' ≡ made ws task) × (reached.sums ≡ sums_of ws')
-counted-made ws task whole gave is = (
-  call-made ws task whole (ap (λ (r : Reply). r.refusal) gave.0, gave.1.0) (ap (λ (r : Reached). r.answer) is),
-  ap (λ (r : Reached). r.sums) is ∙ gave.1.1,
-)
-
 -- what holds of a book and of the book after a task's call holds of the book that the task leaves
 made-keeps : (P : List ℕ → Type 0) (ws : List ℕ) (task : Task) → P (step ws task.call).book → P ws → P (made ws task).book
 unfolding made
@@ -85,22 +71,6 @@ made-keeps P ws task new old =
     (refused-old (task_refusal ws task) (step ws task.call).book ws)
     (λ e. rw (accepted-new (task_refusal ws task) (step ws task.call).book ws e) new)
     old
-
--- an opening and a closing leave the sums of the book as they are
-pub opening-sums : (ws : List ℕ) (number : ℕ) (r : CategoryRecord) → sums_of (made ws (opening number r)).book ≡ sums_of ws
-opening-sums ws number r = made-keeps (λ b. sums_of b ≡ sums_of ws) ws (opening number r) (open-sums ws r.kind) refl
-
-pub closing-sums : (ws : List ℕ) (number : ℕ) (r : CategoryRecord) → sums_of (made_if (is_flagged r) ws (closing number)).book ≡ sums_of ws
-closing-sums ws number r = go (is_flagged r)
-  where
-    go : (t : Bool) → sums_of (cond t (made ws (closing number)) (loading_of Loaded ws)).book ≡ sums_of ws
-    go true = made-keeps (λ b. sums_of b ≡ sums_of ws) ws (closing number) (close-sums ws number) refl
-    go false = refl
-
--- sums that were known are those of the book that a load has come to
-pub known-still : {sums known : Sums} {answer : Load} {ws' : List ℕ} {loading : Loading} → sums ≡ known → loading_of answer ws' ≡ loading
-    → sums_of loading.book ≡ known → (loading_of answer ws' ≡ loading) × (sums ≡ sums_of ws')
-known-still same is kept = (is, same ∙ sym (ap (λ (l : Loading). sums_of l.book) is ∙ kept))
 
 -- a list of tasks that are carried out one after the other
 pub carried-append : (loading : Loading) (first rest : List Task)
@@ -154,11 +124,24 @@ module _ (start : Loading) (asked : ℕ → Bool) (task : ℕ → Task) where
       ∙ carried-stopped k place ws (cond (asked m) (task m ∷ []) []))
       (eq-or-lt_of_le h)
 
--- four tables one after the other
-pub carried-tables : (loading : Loading) (a b c d : List Task)
-    → carried_on (carried_on (carried_on (carried_on loading a) b) c) d ≡ carried_on loading (a ++ (b ++ (c ++ d)))
-carried-tables loading a b c d =
-    sym
-    (carried-append loading a (b ++ (c ++ d))
-    ∙ carried-append (carried_on loading a) b (c ++ d)
-    ∙ carried-append (carried_on (carried_on loading a) b) c d)
+-- tasks behind others: where these stop nothing, they go on with what these left; and where one of these stops the load, it stays so
+pub carried-then : {end : Loading} (start : Loading) (first rest : List Task) (ws : List ℕ) → loading_of Loaded ws ≡ carried_on start first
+    → end ≡ carried_on (loading_of Loaded ws) rest → end ≡ carried_on start (first ++ rest)
+carried-then start first rest ws before behind =
+    behind ∙ ap (λ (l : Loading). carried_on l rest) before ∙ sym (carried-append start first rest)
+
+pub stopped-before : (start : Loading) (first rest : List Task) (n : ℕ) (place : Place) (ws : List ℕ)
+    → loading_of (Stopped n place) ws ≡ carried_on start first → loading_of (Stopped n place) ws ≡ carried_on start (first ++ rest)
+stopped-before start first rest n place ws stop =
+    sym (carried-append start first rest ∙ ap (λ (l : Loading). carried_on l rest) (sym stop) ∙ carried-stopped n place ws rest)
+
+-- a refusal's number, by the answer and by the reply
+pub reply-refusal : (answer : Result ℕ Refusal) {reply : Reply} → reply_in answer ≡ reply → refusal_in answer ≡ reply.refusal
+reply-refusal (Ok n) e = ap (λ (r : Reply). r.refusal) e
+reply-refusal (Err refusal) e = ap (λ (r : Reply). r.refusal) e
+
+-- the answer that a stop is handed on in
+pub stop-handed : (stop : Stop) (answer : Result (Unit {0}) Stop) → IsErrAnd answer (λ e. e ≡ stop)
+    → answer_in answer ≡ Stopped (number_of stop.refusal) stop.place
+stop-handed stop (Ok done) h = absurd h
+stop-handed stop (Err e) h = rw h

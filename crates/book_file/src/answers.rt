@@ -1,6 +1,10 @@
 // What a load answers.
 ghost use Rattle.std.specs.Prelude.{◌≡◌};
+ghost use Rattle.apportion.specs.Refusals.{refusal_in};
 ghost use Rattle.book_file.specs.Answers.{place_numbers, numbers_of, answer_at};
+ghost use Rattle.book_file.specs.Inner.Steps.{answer_in};
+
+use apportion::Refusal;
 
 // Where a load stopped: the header, or a table and the number of its record.
 #[derive(Clone, Copy)]
@@ -77,12 +81,19 @@ fn place_numbers(refusal: u64, place: Place) -> Numbers
     }
 }
 
-// The answer after a record whose refusal number is this, 0 where nothing stops the load.
-pub fn answer_at(refusal: u64, place: Place) -> Load
-    ensures { result ≡ answer_at refusal place }
+// Why a load stops, and where.
+#[derive(Clone, Copy)]
+pub struct Stop {
+    pub refusal: Refusal,
+    pub place: Place,
+}
+
+// A call at a place stops the load where it is refused.
+pub fn stop_at<T: Copy>(answer: Result<T, Refusal>, place: Place) -> Result<(), Stop>
+    ensures { answer_in result ≡ answer_at (refusal_in answer) place }
 {
-    if refusal == 0 {
-        return Load::Loaded;
+    match answer {
+        Ok(_) => Ok(()),
+        Err(refusal) => Err(Stop { refusal, place }),
     }
-    Load::Stopped(refusal, place)
 }

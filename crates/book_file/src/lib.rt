@@ -6,9 +6,11 @@ mod answers;
 mod header;
 mod loading;
 mod numbers;
+mod reading;
 mod records;
 mod tables;
 
 pub use answers::{Load, Numbers, Place, numbers_of};
 pub use loading::load;
 pub use numbers::u64_at;
+pub use reading::read_full;

@@ -25,23 +25,23 @@ pub struct ElementRecord {
 }
 
 pub fn category(file: &[u8], at: usize) -> CategoryRecord
-    requires { at < 2 ^ 40 }
+    requires { at < 2 ^ 41 }
     ensures { result ≡ category_record file.now at }
 {
     CategoryRecord {
-        kind: u32_at(file, at),
-        flag: u32_at(file, at + 4),
+        kind: u32_at(file, at).into(),
+        flag: u32_at(file, at + 4).into(),
     }
 }
 
 // The record of an entry has the arguments of its post.
 pub fn entry(file: &[u8], at: usize) -> PostArguments
-    requires { at < 2 ^ 40 }
+    requires { at < 2 ^ 41 }
     ensures { result ≡ entry_record file.now at }
 {
     PostArguments {
-        category: u32_at(file, at),
-        group: u32_at(file, at + 4),
+        category: u32_at(file, at).into(),
+        group: u32_at(file, at + 4).into(),
         quantity: u64_at(file, at + 8),
         operation_factor: u64_at(file, at + 16),
         provision_factor: u64_at(file, at + 24),
@@ -49,14 +49,14 @@ pub fn entry(file: &[u8], at: usize) -> PostArguments
 }
 
 pub fn element(file: &[u8], at: usize) -> ElementRecord
-    requires { at < 2 ^ 40 }
+    requires { at < 2 ^ 41 }
     ensures { result ≡ element_record file.now at }
 {
     ElementRecord {
-        category: u32_at(file, at),
-        chain: u32_at(file, at + 4),
-        code: u32_at(file, at + 8),
-        adjust: u32_at(file, at + 12),
+        category: u32_at(file, at).into(),
+        chain: u32_at(file, at + 4).into(),
+        code: u32_at(file, at + 8).into(),
+        adjust: u32_at(file, at + 12).into(),
         amount: u64_at(file, at + 16),
         distance: u64_at(file, at + 24),
         operation: u64_at(file, at + 32),

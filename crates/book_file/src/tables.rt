@@ -1,17 +1,15 @@
 // The tables of a file, and the calls that their records ask for.
-ghost use Rattle.std.specs.Prelude.{true, ◌≡◌, ◌+◌, ◌<◌};
-ghost use Rattle.book_words.specs.Soundness.{sound};
-ghost use Rattle.book_words.specs.Totals.{sums_of};
-ghost use Rattle.book_file.specs.Answers.{answer_at};
-ghost use Rattle.book_file.specs.Inner.Steps.{Within32, made_if};
+ghost use Rattle.std.specs.Prelude.{◌≡◌};
+ghost use Rattle.book_file.specs.declared.answers.Load.TheVariants.{Loaded};
+ghost use Rattle.book_file.specs.Inner.Steps.{answer_in, made_if};
 ghost use Rattle.book_file.specs.Loading.{section_of, loading_of, opening, posting, quoting, enrolling, enrolling_or_quoting, made, tasks_in, carried_on, closing, is_flagged, is_asked, task_at};
 
-use crate::answers::{Load, Place};
+use crate::answers::{Place, Stop};
 use crate::header::Section;
 use crate::records::{CategoryRecord, ElementRecord};
 use crate::{answers, header, records};
-use book::{Counted, EnrolArguments, PostArguments, QuoteArguments};
-use book_words::Sums;
+use apportion::Refusal;
+use book::{EnrolArguments, PostArguments, QuoteArguments, SoundBook};
 
 // The records that ask for calls. The categories do so twice: to be opened, and those flagged to be closed.
 #[derive(Clone, Copy)]
@@ -22,127 +20,90 @@ pub enum Table {
     Closings,
 }
 
-// What a load has come to: its answer so far, and the sums of the book that it has made.
-#[derive(Clone, Copy)]
-pub struct Reached {
-    pub answer: Load,
-    pub sums: Sums,
-}
-
-// Goes on with a load: makes the calls of the records of a table, up to one that stops it.
-pub fn load_table(book: &mut [u64], file: &[u8], table: Table, before: Reached) -> Reached
-    requires book_value { sound book.old ≡ true }
-    requires sums_value { before.sums ≡ sums_of book.old }
-    ensures book_after { loading_of result.answer book.new
-        ≡ carried_on (loading_of before.answer book.old) (tasks_in file.now table) }
-    ensures sums_value_2 { result.sums ≡ sums_of book.new }
+// Makes the calls of the records of a table, up to one that stops the load.
+pub fn load_table(book: &mut SoundBook, file: &[u8], table: Table) -> Result<(), Stop>
+    ensures book_after { loading_of (answer_in result) book.new.words.now
+        ≡ carried_on (loading_of Loaded book.old.words.now) (tasks_in file.now table) }
+    ensures same_words { book.new.words.ghost_name ≡ book.old.words.ghost_name }
 {
-    let answer = before.answer;
-    let Load::Loaded = answer else {
-        return before;
-    };
-    let section = section_of(file, table);
-    let mut sums = before.sums;
-    let mut place = 0;
-    while place < section.count {
-        let reached = load_record(book, sums, file, table, section, place);
-        let answer = reached.answer;
-        let Load::Loaded = answer else {
-            return reached;
-        };
-        sums = reached.sums;
-        place += 1;
+    let section = header::section_of(file, table);
+    for place in 0..section.count {
+        load_record(book, file, table, section, place)?;
     }
-    Reached {
-        answer: Load::Loaded,
-        sums,
-    }
+    Ok(())
 }
 
-// Makes the call that the record at a place asks for. Opening and closing leave the sums as they are.
+// Makes the call that the record at a place asks for.
 fn load_record(
-    book: &mut [u64],
-    sums: Sums,
+    book: &mut SoundBook,
     file: &[u8],
     table: Table,
     section: Section,
-    place: usize,
-) -> Reached
-    requires book_value { sound book.old ≡ true }
-    requires sums_value { sums ≡ sums_of book.old }
-    requires section_value { section ≡ section_of file.now table }
-    requires within32 { Within32 section }
-    requires place_lt_count { place < section.count }
-    ensures book_after { loading_of result.answer book.new
-        ≡ made_if (is_asked file.now table place) book.old (task_at file.now table place) }
-    ensures sums_value_2 { result.sums ≡ sums_of book.new }
+    place: u32,
+) -> Result<(), Stop>
+    requires { section ≡ section_of file.now table }
+    ensures book_after { loading_of (answer_in result) book.new.words.now
+        ≡ made_if (is_asked file.now table place) book.old.words.now (task_at file.now table place) }
+    ensures same_words { book.new.words.ghost_name ≡ book.old.words.ghost_name }
 {
-    let at = header::record_at(section, place);
-    let number = place as u64 + 1;
+    let at = section.record_at(place);
+    let number = u64::from(place) + 1;
     match table {
-        Table::Categories => Reached {
-            answer: open(book, number, records::category(file, at)),
-            sums,
-        },
-        Table::Entries => post(book, sums, number, records::entry(file, at)),
-        Table::Elements => enrol_or_quote(book, sums, number, records::element(file, at)),
-        Table::Closings => Reached {
-            answer: close(book, number, records::category(file, at)),
-            sums,
-        },
+        Table::Categories => open(book, number, records::category(file, at)),
+        Table::Entries => post(book, number, records::entry(file, at)),
+        Table::Elements => enrol_or_quote(book, number, records::element(file, at)),
+        Table::Closings => close(book, number, records::category(file, at)),
     }
 }
 
 // Opens a category.
-fn open(book: &mut [u64], number: u64, category: CategoryRecord) -> Load
-    requires { sound book.old ≡ true }
-    ensures { loading_of result book.new ≡ made book.old (opening number category) }
+#[tactic(auto, unfolding(crate::specs::Loading::made, crate::specs::Answers::answer_at))]
+fn open(book: &mut SoundBook, number: u64, category: CategoryRecord) -> Result<(), Stop>
+    ensures book_after { loading_of (answer_in result) book.new.words.now ≡ made book.old.words.now (opening number category) }
+    ensures same_words { book.new.words.ghost_name ≡ book.old.words.ghost_name }
 {
     let place = Place::Category(number);
     let misflagged = category.flag > 1;
     if misflagged {
-        return Load::Stopped(13, place);
+        return Err(Stop {
+            refusal: Refusal::WrongField,
+            place,
+        });
     }
-    let reply = book::open_sound(book, category.kind);
-    answers::answer_at(reply.refusal, place)
+    answers::stop_at(book.open(category.kind), place)
 }
 
 // Posts an entry.
-fn post(book: &mut [u64], sums: Sums, number: u64, p: PostArguments) -> Reached
-    requires book_value { sound book.old ≡ true }
-    requires sums_value { sums ≡ sums_of book.old }
-    ensures book_after { loading_of result.answer book.new ≡ made book.old (posting number p) }
-    ensures sums_value_2 { result.sums ≡ sums_of book.new }
+fn post(book: &mut SoundBook, number: u64, p: PostArguments) -> Result<(), Stop>
+    ensures book_after { loading_of (answer_in result) book.new.words.now ≡ made book.old.words.now (posting number p) }
+    ensures same_words { book.new.words.ghost_name ≡ book.old.words.ghost_name }
 {
-    let counted = book::post_sound(book, sums, p);
-    counted_at(counted, Place::Entry(number))
+    answers::stop_at(book.post(p), Place::Entry(number))
 }
 
 // Enrols an element or, with category 0, quotes one.
-fn enrol_or_quote(book: &mut [u64], sums: Sums, number: u64, element: ElementRecord) -> Reached
-    requires book_value { sound book.old ≡ true }
-    requires sums_value { sums ≡ sums_of book.old }
-    ensures book_after { loading_of result.answer book.new ≡ made book.old (enrolling_or_quoting number element) }
-    ensures sums_value_2 { result.sums ≡ sums_of book.new }
+fn enrol_or_quote(book: &mut SoundBook, number: u64, element: ElementRecord) -> Result<(), Stop>
+    ensures book_after { loading_of (answer_in result) book.new.words.now
+        ≡ made book.old.words.now (enrolling_or_quoting number element) }
+    ensures same_words { book.new.words.ghost_name ≡ book.old.words.ghost_name }
 {
     if element.category == 0 {
-        return quote(book, sums, number, element);
+        return quote(book, number, element);
     }
-    enrol(book, sums, number, element)
+    enrol(book, number, element)
 }
 
-fn quote(book: &mut [u64], sums: Sums, number: u64, element: ElementRecord) -> Reached
-    requires book_value { sound book.old ≡ true }
-    requires sums_value { sums ≡ sums_of book.old }
-    ensures book_after { loading_of result.answer book.new ≡ made book.old (quoting number element) }
-    ensures sums_value_2 { result.sums ≡ sums_of book.new }
+#[tactic(auto, unfolding(crate::specs::Loading::made, crate::specs::Answers::answer_at))]
+fn quote(book: &mut SoundBook, number: u64, element: ElementRecord) -> Result<(), Stop>
+    ensures book_after { loading_of (answer_in result) book.new.words.now ≡ made book.old.words.now (quoting number element) }
+    ensures same_words { book.new.words.ghost_name ≡ book.old.words.ghost_name }
 {
     let place = Place::Element(number);
     if element.code != 0 {
-        return Reached {
-            answer: Load::Stopped(13, place),
-            sums,
-        };
+        return Err(Stop {
+            refusal: Refusal::WrongField,
+            place,
+        });
     }
     let q = QuoteArguments {
         chain: element.chain,
@@ -152,23 +113,21 @@ fn quote(book: &mut [u64], sums: Sums, number: u64, element: ElementRecord) -> R
         operation_intensity: element.operation,
         provision_intensity: element.provision,
     };
-    let counted = book::quote_sound(book, sums, q);
-    counted_at(counted, place)
+    answers::stop_at(book.quote(q), place)
 }
 
-fn enrol(book: &mut [u64], sums: Sums, number: u64, element: ElementRecord) -> Reached
-    requires book_value { sound book.old ≡ true }
-    requires sums_value { sums ≡ sums_of book.old }
-    ensures book_after { loading_of result.answer book.new ≡ made book.old (enrolling number element) }
-    ensures sums_value_2 { result.sums ≡ sums_of book.new }
+#[tactic(auto, unfolding(crate::specs::Loading::made, crate::specs::Answers::answer_at))]
+fn enrol(book: &mut SoundBook, number: u64, element: ElementRecord) -> Result<(), Stop>
+    ensures book_after { loading_of (answer_in result) book.new.words.now ≡ made book.old.words.now (enrolling number element) }
+    ensures same_words { book.new.words.ghost_name ≡ book.old.words.ghost_name }
 {
     let place = Place::Element(number);
     let wrong_adjust = !book_words::is_passenger(element.code) & (element.adjust != 0);
     if wrong_adjust | (element.operation != 0) | (element.provision != 0) {
-        return Reached {
-            answer: Load::Stopped(13, place),
-            sums,
-        };
+        return Err(Stop {
+            refusal: Refusal::WrongField,
+            place,
+        });
     }
     let e = EnrolArguments {
         category: element.category,
@@ -178,43 +137,17 @@ fn enrol(book: &mut [u64], sums: Sums, number: u64, element: ElementRecord) -> R
         distance: element.distance,
         kg_per_head: element.adjust,
     };
-    let counted = book::enrol_sound(book, sums, e);
-    counted_at(counted, place)
-}
-
-// What a load has come to after a call at this place.
-fn counted_at(counted: Counted, place: Place) -> Reached
-    ensures { result ≡ record { answer = answer_at counted.reply.refusal place; sums = counted.sums } }
-{
-    let reply = counted.reply;
-    let sums = counted.sums;
-    Reached {
-        answer: answers::answer_at(reply.refusal, place),
-        sums,
-    }
+    answers::stop_at(book.enrol(e), place)
 }
 
 // Closes a category that is flagged.
-fn close(book: &mut [u64], number: u64, category: CategoryRecord) -> Load
-    requires { sound book.old ≡ true }
-    ensures { loading_of result book.new ≡ made_if (is_flagged category) book.old (closing number) }
+fn close(book: &mut SoundBook, number: u64, category: CategoryRecord) -> Result<(), Stop>
+    ensures book_after { loading_of (answer_in result) book.new.words.now
+        ≡ made_if (is_flagged category) book.old.words.now (closing number) }
+    ensures same_words { book.new.words.ghost_name ≡ book.old.words.ghost_name }
 {
     if category.flag != 1 {
-        return Load::Loaded;
+        return Ok(());
     }
-    let refusal = book::close_sound(book, number);
-    answers::answer_at(refusal, Place::Closing(number))
-}
-
-// The section of a table.
-fn section_of(file: &[u8], table: Table) -> Section
-    ensures value { result ≡ section_of file.now table }
-    ensures within32 { Within32 result }
-{
-    match table {
-        Table::Categories => header::categories_in(file),
-        Table::Entries => header::entries_in(file),
-        Table::Elements => header::elements_in(file),
-        Table::Closings => header::categories_in(file),
-    }
+    answers::stop_at(book.close(number), Place::Closing(number))
 }

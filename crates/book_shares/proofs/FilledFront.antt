@@ -1,24 +1,18 @@
 -- A slice that a loop fills from the front. Assumes nothing.
 use mathlib.Core.List.{List}
-use mathlib.Core.Path.{◌≡◌, refl, ap, ◌∙◌}
+use mathlib.Core.Path.{◌≡◌, ap, ◌∙◌}
 use Prim.Native.Nat.{ℕ, ◌≤◌, ◌<◌, ◌+◌}
 use native.Mathlib.Omega.{arith}
 use lib.ListN.{length, set}
 use Rattle.apportion.specs.Places.{at, list_below}
-use Rattle.apportion.proofs.Lists.{filled, filled_at, filled-length, filled_next, filled-whole}
+use Rattle.apportion.proofs.Lists.{filled, filled_at, filled_next, filled-whole}
 
 -- it is filled up to place k
 pub record Filling (f : ℕ → ℕ) (old : List ℕ) (k : ℕ) (new : List ℕ) : Type 0 where
   pub inside : k ≤ length old
   pub so_far : new ≡ filled k f old
 
-pub filling-start : (f : ℕ → ℕ) (old : List ℕ) → Filling f old 0 old
-filling-start f old = record { inside = omega arith; so_far = refl }
-
 module _ {f : ℕ → ℕ} {old new : List ℕ} {k : ℕ} (s : Filling f old k new) where
-  pub filling-length : length new ≡ length old
-  filling-length = ap length s.so_far ∙ filled-length k f old s.inside
-
   -- the next number is still the old one
   pub filling-here : k < length old → at new k ≡ at old k
   filling-here h = ap (λ (l : List ℕ). at l k) s.so_far ∙ filled_at k f old h

@@ -17,13 +17,12 @@ use Rattle.book_words.specs.Soundness.{sound}
 use Rattle.book_words.specs.declared.totals.Side.{Side}
 use Rattle.book_words.specs.declared.totals.Side.TheVariants.{Operation as operation, Provision as provision}
 use Rattle.book_words.specs.Inner.Steps.{capped}
-use Rattle.book_shares.specs.declared.intensities.Intensity.{Intensity}
 use Rattle.book_shares.specs.declared.pools.Pools.{Pools}
 use Rattle.book_shares.specs.declared.sharing.Parts.{Parts}
 use Rattle.book_shares.specs.declared.weights.Recipients.{Recipients}
 use Rattle.book_shares.specs.declared.weights.Recipients.TheVariants.{Group, Passengers, Freight}
 use Rattle.book_shares.specs.Inner.Steps.{scale_tens, Allowed, pools_by, group_pool}
-use Rattle.book_shares.specs.Intensities.{lacks_activity, intensity_of, scale, most_result, intensity_refusal, is_intensity_code, passes_intensity, intensity_reply, intensity_grounds}
+use Rattle.book_shares.specs.Intensities.{lacks_activity, intensity_of, scale, most_result, intensity_refusal, is_intensity_code, passes_intensity, IntensityReply, intensity_reply, intensity_grounds}
 use Rattle.book_shares.specs.Inner.Members.{members, activity_at, mass_at}
 use Rattle.book_shares.specs.Sums.{activity_among, pool}
 use Rattle.apportion.proofs.Grounds.{or-none, none-holds, decided-from}
@@ -129,7 +128,7 @@ module _ (ws : List ℕ) (category code : ℕ) where
   reply-refused n is ne = go n (intensity_refusal ws category code) is ne
     where
       go : (n m : ℕ) → n ≡ m → (n ≡ 0 → ⊥)
-          → ◌≡◌ {A = Intensity} (record { refusal = n; operation = 0; provision = 0 })
+          → ◌≡◌ {A = IntensityReply} (record { refusal = n; operation = 0; provision = 0 })
           (record {
             refusal = m;
             operation = accepted m (intensity_of ws category code operation) 0;

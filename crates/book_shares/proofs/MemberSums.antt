@@ -1,19 +1,17 @@
 -- The elements of a category by their places: sums, weights and divisions over these places alone are those over all
 -- places. Assumes nothing.
 use mathlib.Core.Bool.{Bool, true, false, cond}
-use mathlib.Core.List.{List, [], ◌∷◌, ◌++◌, append-nil, append_assoc}
+use mathlib.Core.List.{List, [], ◌∷◌, ◌++◌, append-nil}
 use mathlib.Core.Logic.{⊎_elim, inl, inr}
-use mathlib.Core.Path.{◌≡◌, refl, sym, ap, ◌∙◌}
+use mathlib.Core.Path.{◌≡◌, sym, ap, ◌∙◌}
 use Prim.Native.Nat.{ℕ, zero, suc, ◌+◌, ◌≤◌, ◌<◌, ◌*◌}
-use native.Mathlib.Numerals.{add-one}
 use native.Mathlib.Omega.{arith}
-use lib.ListN.{length, drop, take, set, length-append, get_or-append}
-use lib.Seq.{get_or_at, drop-cons, set_at, take_at}
+use lib.ListN.{length, length-append, get_or-append}
+use lib.Seq.{get_or_at}
 use Rattle.apportion.specs.Dividing.{divided, Divisible, most_total}
-use Rattle.apportion.specs.Places.{at, one_if, count_below, kept_below, kept, sum_of, sum_below}
+use Rattle.apportion.specs.Places.{at, count_below, kept_below, kept, sum_of, sum_below}
 use Rattle.book_words.specs.Book.{elements, element_at, most_elements}
 use Rattle.book_words.specs.Measures.{by_stated_mass}
-use Rattle.book_words.specs.Inner.Steps.{numbered_element}
 use Rattle.book_words.specs.Soundness.{sound}
 use Rattle.book_words.specs.Totals.{most_activity}
 use Rattle.book_words.specs.declared.records.Element.{Element}
@@ -21,7 +19,7 @@ use Rattle.book_shares.specs.declared.weights.Measure.{Measure}
 use Rattle.book_shares.specs.declared.weights.Measure.TheVariants.{Activity, Mass}
 use Rattle.book_shares.specs.declared.weights.Recipients.{Recipients}
 use Rattle.book_shares.specs.declared.weights.Recipients.TheVariants.{Freight, Passengers}
-use Rattle.book_shares.specs.Inner.Members.{is_member, members, Listed, starting_with, at_places, measure_of, weights_at, sum_at, activity_at, mass_at}
+use Rattle.book_shares.specs.Inner.Members.{is_member, members, at_places, measure_of, weights_at, sum_at, activity_at, mass_at}
 use Rattle.book_shares.specs.Shares.{weights, part_at}
 use Rattle.book_shares.specs.Sums.{if_recipient, among, sum_among, activity_among, passengers_by_mass}
 use Rattle.apportion.proofs.Laws.{shares-length}
@@ -29,31 +27,8 @@ use Rattle.apportion.proofs.Lists.{list_length, list-sum}
 use Rattle.apportion.proofs.PlacesLeftOut.{kept-length, kept_at, sum_kept, list-kept, divided-kept}
 use Rattle.apportion.proofs.Sums.{below_or_not, count_most}
 use Rattle.book_words.proofs.SoundTests.{sound-counted}
-use Rattle.book_words.proofs.NumberedRecords.{next-element}
 use Rattle.book_shares.proofs.SumBounds.{activity-limited, served-limited}
 use Rattle.book_shares.proofs.ClosingShares.{weights-length, weights-sum, weight-at, weight-none}
-
--- a slice whose front grows by a number where a test holds
-front-next : (t : Bool) (xs old : List ℕ) (x : ℕ) → length xs < length old
-    → cond t (set (starting_with xs old) (length xs) x) (starting_with xs old) ≡ starting_with (xs ++ cond t (x ∷ []) []) old
-front-next true xs old x room =
-    rw (length-append, add-one, drop-cons old (length xs) 0)
-    (set_at xs (at old (length xs)) (drop (suc (length xs)) old) x (length xs) refl
-    ∙ sym (append_assoc xs (x ∷ []) (drop (suc (length xs)) old)))
-front-next false xs old x room = rw append-nil
-
-pub front-grown : (t : Bool) (xs old now new : List ℕ) (n x : ℕ) → now ≡ starting_with xs old → n ≡ length xs → length xs < length old
-    → new ≡ cond t (set now n x) now
-    → new ≡ starting_with (xs ++ cond t (x ∷ []) []) old
-front-grown t xs old now new n x is-now is-n room is = is ∙ rw (is-now, is-n) (front-next t xs old x room)
-
-pub front_length : (t : Bool) (xs : List ℕ) (x : ℕ) → length xs + one_if t ≡ length (xs ++ cond t (x ∷ []) [])
-front_length true xs x = sym (length-append xs (x ∷ []))
-front_length false xs x = rw append-nil (omega arith)
-
--- the front alone
-pub front-taken : (xs old now : List ℕ) (n : ℕ) → n ≡ length xs → now ≡ starting_with xs old → take n now ≡ xs
-front-taken xs old now n is-n is-now = rw (is-now, is-n) (take_at xs (drop (length xs) old) (length xs) refl)
 
 -- the places that are kept are places
 kept-inside : (n : ℕ) (keep : ℕ → Bool) (i : ℕ) → i < length (kept_below n keep (λ p. p)) → at (kept_below n keep (λ p. p)) i < n
@@ -162,25 +137,21 @@ divisible-members ws category recipients amount =
     (λ (none : amount ≡ 0). inr none)
 
 -- the places of the elements of a category in a sound book
-module _ (ws places : List ℕ) (fine : sound ws ≡ true) (l : Listed ws places) where
+module _ (ws : List ℕ) (category : ℕ) (places : List ℕ) (fine : sound ws ≡ true) (are : places ≡ members ws category) where
   pub listed-inside : (i : ℕ) → i < length places → at places i < elements ws
-  listed-inside i h = rw l.are (members-inside ws l.category i (rw l.are at h))
-
-  -- the element that is read at one of them
-  pub listed-read : (i : ℕ) → i < length places → numbered_element ws (at places i + 1) ≡ element_at ws (at places i)
-  listed-read i h = next-element ws (at places i) (listed-inside i h)
+  listed-inside i h = rw are (members-inside ws category i (rw are at h))
 
   pub listed-few : length places ≤ most_elements
-  listed-few = rw l.are (members-few ws l.category fine)
+  listed-few = rw are (members-few ws category fine)
 
   pub listed-activity : (recipients : Recipients) → activity_at ws places recipients ≤ most_total
   listed-activity recipients =
-      rw (l.are, activity-members ws l.category recipients) (activity-limited ws fine l.category recipients)
+      rw (are, activity-members ws category recipients) (activity-limited ws fine category recipients)
 
   -- F and P together
   pub listed-served : activity_at ws places Freight + mass_at ws places ≤ 3 * most_activity
   listed-served =
-      rw (l.are, activity-members ws l.category Freight, mass-members ws l.category) (served-limited ws fine l.category)
+      rw (are, activity-members ws category Freight, mass-members ws category) (served-limited ws fine category)
 
   -- each sum over them
   pub listed-limited : (measure : Measure) → sum_at ws places measure ≤ most_total

@@ -6,7 +6,7 @@ use Prim.Native.Nat.{ℕ, zero, suc, ◌+◌, ◌*◌, ◌≤◌, ◌<◌}
 use native.Mathlib.Nat.{eq-or-lt_of_le}
 use native.Mathlib.Numerals.{add-one}
 use native.Mathlib.Omega.{arith}
-use lib.ListN.{length, set, drop, length-append, length-drop}
+use lib.ListN.{length, set, drop, length-append}
 use lib.Seq.{drop-cons, get_or_at, set_at}
 use Rattle.apportion.specs.Places.{at}
 use Rattle.book_words.specs.declared.totals.Side.{Side}
@@ -77,15 +77,7 @@ pub record PairsWriting (pair : ℕ → Side → ℕ) (old : List ℕ) (k : ℕ)
   pub inside : 2 * k ≤ length old
   pub so_far : new ≡ pairs_below k pair ++ drop (2 * k) old
 
-pub writing_start : (pair : ℕ → Side → ℕ) (old : List ℕ) → PairsWriting pair old 0 old
-writing_start pair old = record { inside = omega arith; so_far = refl }
-
 module _ {pair : ℕ → Side → ℕ} {old new : List ℕ} {k : ℕ} (w : PairsWriting pair old k new) where
-  pub writing-length : length new ≡ length old
-  writing-length =
-      ap length w.so_far
-      ∙ omega (arith, length-append (pairs_below k pair) (drop (2 * k) old), pairs-length k pair, length-drop (2 * k) old, w.inside)
-
   pub writing-next : (next : List ℕ) (a b : ℕ) → 2 * k + 1 < length old → a ≡ pair k operation → b ≡ pair k provision → next ≡ put_two new (2 * k) a b
       → PairsWriting pair old (k + 1) next
   writing-next next a b room is-a is_b e =

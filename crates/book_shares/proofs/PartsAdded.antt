@@ -18,7 +18,7 @@ use Rattle.book_shares.specs.declared.sharing.Parts.{Parts}
 use Rattle.book_shares.specs.declared.weights.Recipients.{Recipients}
 use Rattle.book_shares.specs.declared.weights.Recipients.TheVariants.{Group, Freight, Passengers}
 use Rattle.book_shares.specs.Inner.Steps.{DivisibleOver, parts_by, pools_by, with_parts_of}
-use Rattle.book_shares.specs.Inner.Members.{members, Listed, at_places, weights_at, activity_at, mass_at}
+use Rattle.book_shares.specs.Inner.Members.{members, at_places, weights_at, activity_at, mass_at}
 use Rattle.book_shares.specs.Shares.{weights, part_at, divided_all, freight_part, passenger_part, closing_share}
 use Rattle.book_shares.specs.Sums.{pool}
 use Rattle.apportion.proofs.Grounds.{accepted-new}
@@ -57,17 +57,17 @@ module _ (ws places : List ℕ) (recipients : Recipients) (amount : ℕ) (d : Di
       )
 
   -- such a division is accepted
-  division-accepted : sound ws ≡ true → Listed ws places
+  division-accepted : sound ws ≡ true → (category : ℕ) → places ≡ members ws category
       → refusal amount (length (weights_at ws places recipients)) (length places) (sum_of (weights_at ws places recipients)) ≡ 0
   unfolding refusal
-  division-accepted fine l =
+  division-accepted fine category are =
       rw (weights-at-length ws places recipients, weights-at-sum ws places recipients)
       (rw (
         eq-eqb (length places) (length places) refl,
-        le-ltb 256 (length places) (listed-few ws places fine l),
+        le-ltb 256 (length places) (listed-few ws category places fine are),
         some d.divisible,
         le-ltb most_pool amount d.within,
-        le-ltb most_total (activity_at ws places recipients) (listed-activity ws places fine l recipients),
+        le-ltb most_total (activity_at ws places recipients) (listed-activity ws category places fine are recipients),
       ))
     where
       some : Divisible amount (weights_at ws places recipients) → ltb 0 amount && eqb (activity_at ws places recipients) 0 ≡ false
@@ -78,14 +78,19 @@ module _ (ws places : List ℕ) (recipients : Recipients) (amount : ℕ) (d : Di
           (ne_eqb (activity_at ws places recipients) 0 (λ z. omega (arith, weights-at-sum ws places recipients))))
           (λ (none : amount ≡ 0). rw (le-ltb 0 amount (omega arith)))
 
+  -- with the weights that the code gives
+  pub amount-accepted : sound ws ≡ true → (category : ℕ) → places ≡ members ws category → (given old : List ℕ) → given ≡ weights_at ws places recipients → length old ≡ length places
+      → refusal amount (length given) (length old) (sum_of given) ≡ 0
+  amount-accepted fine category listed given old are long = rw (are, long) (division-accepted fine category listed)
+
   -- and done as the code does it
-  pub amount-divided : sound ws ≡ true → Listed ws places → (given old new : List ℕ) → given ≡ weights_at ws places recipients → length old ≡ length places
+  pub amount-divided : sound ws ≡ true → (category : ℕ) → places ≡ members ws category → (given old new : List ℕ) → given ≡ weights_at ws places recipients → length old ≡ length places
       → new ≡ shares_after amount given old
       → new ≡ divided amount (weights_at ws places recipients)
-  amount-divided fine l given old new are long is =
+  amount-divided fine category listed given old new are long is =
       is
       ∙ ap (λ (x : List ℕ). shares_after amount x old) are
-      ∙ division-done amount (weights_at ws places recipients) old (rw long (division-accepted fine l))
+      ∙ division-done amount (weights_at ws places recipients) old (rw long (division-accepted fine category listed))
 
 -- as many shares as there are places, each at most so much
 pub record Held (n most : ℕ) (shares : List ℕ) : Type 0 where
@@ -127,24 +132,28 @@ module _ (n : ℕ) where
         ap (λ (l : List ℕ). at l k) three ∙ list_at n (λ j. at d j + r j) k h,
       ))
 
--- A divided by F and P, as the code does it
-pub all-divided : (a f p : ℕ) {g q : ℕ} (old new : List ℕ) → g ≡ f → q ≡ p → length old ≡ 2 → a ≤ most_pool → 0 < f + p → f + p ≤ most_total
-    → new ≡ shares_after a (g ∷ q ∷ []) old
-    → new ≡ divided a (f ∷ p ∷ [])
+-- A divided by F and P, as the code does it: it is accepted
+pub all-accepted : (a f p : ℕ) {g q : ℕ} (old : List ℕ) → g ≡ f → q ≡ p → length old ≡ 2 → a ≤ most_pool → 0 < f + p → f + p ≤ most_total
+    → refusal a 2 (length old) (sum_of (g ∷ q ∷ [])) ≡ 0
 unfolding refusal
-all-divided a f p old new is_f is-p two within served few is =
+all-accepted a f p old is_f is-p two within served few =
     let total = sum-two (f ∷ p ∷ []) refl in
     let some : eqb (sum_of (f ∷ p ∷ [])) 0 ≡ false = ne_eqb (sum_of (f ∷ p ∷ [])) 0 (λ z. omega (arith, total)) in
-    is
-    ∙ rw (is_f, is-p)
-    (division-done a (f ∷ p ∷ []) old
+    rw (is_f, is-p)
     (rw (
       two,
       some,
       le-ltb most_pool a within,
       le-ltb most_total (sum_of (f ∷ p ∷ [])) (omega (arith, total)),
       and-false (ltb 0 a) false refl,
-    )))
+    ))
+
+-- and gives these shares
+pub all-divided : (a f p : ℕ) {g q : ℕ} (old new : List ℕ) → g ≡ f → q ≡ p → length old ≡ 2 → a ≤ most_pool → 0 < f + p → f + p ≤ most_total
+    → new ≡ shares_after a (g ∷ q ∷ []) old
+    → new ≡ divided a (f ∷ p ∷ [])
+all-divided a f p {g} {q} old new is_f is-p two within served few is =
+    is ∙ division-done a (g ∷ q ∷ []) old (all-accepted a f p old is_f is-p two within served few) ∙ rw (is_f, is-p)
 
 -- where one of the weights is 0, the other gets all of A
 module _ (a f p : ℕ) (served : 0 < f + p) where

@@ -1,5 +1,5 @@
 -- The loop that adds up the pools, and what an entry adds to them by the tests of the code. Assumes nothing.
-use mathlib.Core.Bool.{Bool, cond, not, ◌||◌, true, false}
+use mathlib.Core.Bool.{Bool, cond, true, false}
 use mathlib.Core.List.{List}
 use mathlib.Core.Path.{◌≡◌, refl, ap}
 use Prim.Native.Nat.{ℕ, ◌+◌, ◌<◌, ◌≤◌}
@@ -12,18 +12,8 @@ use Rattle.book_words.specs.Inner.Steps.{capped}
 use Rattle.book_shares.specs.declared.pools.Pools.{Pools}
 use Rattle.book_shares.specs.Inner.Steps.{pools_with, pools_by}
 use Rattle.book_shares.specs.Sums.{in_group, pooled, pool}
-use Rattle.book_words.proofs.SumLoop.{Adding, adding-start, adding-next, adding-done}
+use Rattle.book_words.proofs.SumLoop.{Adding, adding-next, adding-done}
 use Rattle.book_shares.proofs.SumBounds.{pool-limited}
-
--- an entry of another group or a struck one, or an unstruck one of this group
-pub pooled-by : (group wanted struck n : ℕ) (t : Bool) → not (eqb group wanted) || not (eqb struck 0) ≡ t
-    → cond t 0 n ≡ cond (eqb group wanted) (cond (eqb struck 0) n 0) 0
-pooled-by group wanted struck n t e = go (eqb group wanted) (eqb struck 0) t e
-  where
-    go : (a b t : Bool) → not a || not b ≡ t → cond t 0 n ≡ cond a (cond b n 0) 0
-    go true true t h = rw (← h)
-    go true false t h = rw (← h)
-    go false b t h = rw (← h)
 
 module _ (ws : List ℕ) (category : ℕ) (side : Side) where
   -- what the entry at a place adds to the pool of a group
@@ -35,14 +25,6 @@ module _ (ws : List ℕ) (category : ℕ) (side : Side) where
     pub to-all : Adding (entries ws) k pools.all (added 0)
     pub to-chilled : Adding (entries ws) k pools.chilled (added 1)
     pub to-frozen : Adding (entries ws) k pools.frozen (added 2)
-
-  pub pooling-start : Pooling 0 (record { all = 0; chilled = 0; frozen = 0 })
-  pooling-start =
-      record {
-        to-all = adding-start (entries ws) (added 0);
-        to-chilled = adding-start (entries ws) (added 1);
-        to-frozen = adding-start (entries ws) (added 2);
-      }
 
   pub pooling-next : {k : ℕ} {pools : Pools} (next : Pools) → Pooling k pools → k < entries ws → next ≡ pools_with pools category side (entry_at ws k)
       → Pooling (k + 1) next

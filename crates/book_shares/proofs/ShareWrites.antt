@@ -47,13 +47,7 @@ pub record Handing (first width : ℕ) (places words : List ℕ) (share : Side �
   pub inside : k ≤ length places
   pub so_far : new ≡ hand_out_to first width places k words share
 
-pub handing-start : (first width : ℕ) (places words : List ℕ) (share : Side → ℕ → ℕ) → Handing first width places words share 0 words
-handing-start first width places words share = record { inside = omega arith; so_far = refl }
-
 module _ {first width : ℕ} {places words new : List ℕ} {share : Side → ℕ → ℕ} {k : ℕ} (h : Handing first width places words share k new) where
-  pub handing-length : length new ≡ length words
-  handing-length = ap length h.so_far ∙ handed-to-length first width places words share k
-
   pub handing-next : (next : List ℕ) → k < length places
       → next ≡ put_two new (first + width * at places k) (share operation k) (share provision k)
       → Handing first width places words share (k + 1) next

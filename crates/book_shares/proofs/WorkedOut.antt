@@ -14,38 +14,34 @@ use Rattle.book_words.specs.Soundness.{sound}
 use Rattle.book_words.specs.declared.totals.Side.{Side}
 use Rattle.book_words.specs.declared.totals.Side.TheVariants.{Operation as operation, Provision as provision}
 use Rattle.book_shares.specs.Closing.{close_refusal, close_book, close_with, hand_out}
-use Rattle.book_shares.specs.Inner.Members.{members, starting_with, at_places}
+use Rattle.book_shares.specs.Inner.Members.{members, at_places}
 use Rattle.book_shares.specs.Inner.Steps.{ToWorkOut, worked_out, hand_out_to, lists_by_side}
 use Rattle.book_shares.specs.Previews.{pair_words, pairs_of, pairs_written}
 use Rattle.book_shares.specs.Shares.{closing_share}
 use Rattle.apportion.proofs.Grounds.{accepted-new}
-use Rattle.apportion.proofs.Lists.{list_length}
 use Rattle.book_words.proofs.Ranges.{between-high}
 use Rattle.book_words.proofs.SoundTests.{sound-counted}
 use Rattle.book_shares.proofs.BookPairs.{pairs-handed, pairs-closed}
 use Rattle.book_shares.proofs.CloseAccepted.{accepted-closing}
-use Rattle.book_shares.proofs.MemberSums.{front-taken, members-few, listed-inside}
+use Rattle.book_shares.proofs.MemberSums.{members-few, listed-inside}
 use Rattle.book_shares.proofs.PartsAdded.{zeros-at}
 use Rattle.book_shares.proofs.ShareWrites.{first_share, handed_in, sides-written}
 
--- the elements are listed at the front of an array, and the shares are worked out in arrays of zeros
-module _ (ws : List ℕ) (category : ℕ) (fine : sound ws ≡ true) (n : ℕ) (is-n : n ≡ length (members ws category)) where
-  pub listed-fit : n ≤ most_elements
-  listed-fit = omega (arith, members-few ws category fine)
+-- what a closing is worked out with: the elements that are listed, and arrays of zeros, cut to as many
+module _ (ws : List ℕ) (category : ℕ) (fine : sound ws ≡ true) {places : List ℕ} (are : places ≡ members ws category) where
+  pub listed-fit : length places ≤ most_elements
+  listed-fit = omega (arith, ap length are, members-few ws category fine)
 
-  pub to-work-out : (old now : List ℕ) → now ≡ starting_with (members ws category) old
-      → ToWorkOut ws category (take n now) (take n (replicate most_elements 0)) (take n (replicate most_elements 0))
-  to-work-out old now is =
-      let are = front-taken (members ws category) old now n is-n is in
-      let zeros : List ℕ = replicate most_elements 0 in
-      let long : length (take n zeros) ≡ length (take n now) = length-take-le n zeros listed-fit ∙ is-n ∙ ap length (sym are) in
+  pub to-work-out : ToWorkOut ws category places (take (length places) (replicate most_elements 0)) (take (length places) (replicate most_elements 0))
+  to-work-out =
+      let long = length-take-le (length places) (replicate most_elements 0) listed-fit in
       record {
         fine = fine;
         are = are;
         operation_long = long;
         provision_long = long;
-        operation_zeros = zeros-at n most_elements;
-        provision_zeros = zeros-at n most_elements;
+        operation_zeros = zeros-at (length places) most_elements;
+        provision_zeros = zeros-at (length places) most_elements;
       }
 
 -- the shares `a` and `b` are worked out
@@ -63,12 +59,8 @@ module _ {ws : List ℕ} {category : ℕ} {places a₀ b₀ a b : List ℕ} (t :
   by-provision : b ≡ at_places places (share provision)
   by-provision = is_b ∙ accepted-new _ _ _ none
 
-  pub worked-lengths : (length a ≡ length places) × (length b ≡ length places)
-  worked-lengths =
-      (ap length by-operation ∙ list_length (length places) (λ i. share operation (at places i)), ap length by-provision ∙ list_length (length places) (λ i. share provision (at places i)))
-
   place_inside : (k : ℕ) → k < length places → at places k < elements ws
-  place_inside = listed-inside ws places t.fine (record { category = category; are = t.are })
+  place_inside = listed-inside ws category places t.fine t.are
 
   -- the words of each place are in the book, and in the pairs
   pub in-book : (k : ℕ) → k < length places → first_share + element_list.width * at places k + 1 < length ws

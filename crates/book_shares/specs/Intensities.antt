@@ -1,5 +1,5 @@
 -- "**Intensity** (category, code 0, 1, 2 or 100) returns operation and provision". Assumes nothing.
-use Rattle.std.specs.Prelude.{Bool, ◌||◌, cond, not, ◌&&◌, List, ◌∷◌, [], ℕ, ◌*◌, ◌+◌, eqb, ltb}
+use Rattle.std.specs.Prelude.{Result, Ok, Err, Bool, ◌||◌, cond, not, ◌&&◌, List, ◌∷◌, [], ℕ, ◌*◌, ◌+◌, eqb, ltb}
 use Rattle.apportion.specs.Fractions.{nearest}
 use Rattle.apportion.specs.Grounds.{Ground, first_of, accepted}
 use Rattle.book_words.specs.Book.{category_of, unnumbered, categories, has_closed}
@@ -9,6 +9,8 @@ use Rattle.book_words.specs.declared.totals.Side.{Side}
 use Rattle.book_words.specs.declared.totals.Side.TheVariants.{Operation as operation, Provision as provision}
 use Rattle.book_words.specs.declared.records.Category.{Category}
 use Rattle.book_shares.specs.declared.intensities.Intensity.{Intensity}
+use Rattle.apportion.specs.Refusals.{number_of}
+use Rattle.apportion.specs.declared.refusing.Refusal.{Refusal}
 use Rattle.book_shares.specs.declared.weights.Recipients.{Recipients}
 use Rattle.book_shares.specs.declared.weights.Recipients.TheVariants.{Group, Freight, Passengers}
 use Rattle.book_shares.specs.Shares.{freight_part, passenger_part}
@@ -77,11 +79,22 @@ intensity_grounds ws category code = intensity_grounds_in ws category code (cate
 unfoldable pub intensity_refusal : List ℕ → ℕ → ℕ → ℕ
 intensity_refusal ws category code = first_of (intensity_grounds ws category code)
 
+-- what an intensity returns: its refusal number, operation and provision
+pub record IntensityReply : Type 0 where
+  pub refusal : ℕ
+  pub operation : ℕ
+  pub provision : ℕ
+
 -- "A refusal returns its number with zeros"
-unfoldable pub intensity_reply : List ℕ → ℕ → ℕ → Intensity
+unfoldable pub intensity_reply : List ℕ → ℕ → ℕ → IntensityReply
 intensity_reply ws category code =
     record {
       refusal = intensity_refusal ws category code;
       operation = accepted (intensity_refusal ws category code) (intensity_of ws category code operation) 0;
       provision = accepted (intensity_refusal ws category code) (intensity_of ws category code provision) 0;
     }
+
+-- what an answer returns, for each of its cases
+abbrev pub intensity_in : Result Intensity Refusal → IntensityReply
+intensity_in (Ok i) = record { refusal = 0; operation = i.operation; provision = i.provision }
+intensity_in (Err refusal) = record { refusal = number_of refusal; operation = 0; provision = 0 }

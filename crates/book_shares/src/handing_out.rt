@@ -8,7 +8,7 @@ pub fn hand_out_to(
     words: &mut [u64],
     first: usize,
     width: usize,
-    members: &[usize],
+    members: &[u16],
     operation: &[u64],
     provision: &[u64],
 )
@@ -18,11 +18,13 @@ pub fn hand_out_to(
         ≡ hand_out_to first width members.now (length members.now) words.old
         (lists_by_side operation.now provision.now) }
 {
-    let mut next = 0;
-    while next < members.len() {
-        let start = first + width * members[next];
-        put_two(words, start, operation[next], provision[next]);
-        next += 1;
+    for (index, place) in members.iter().enumerate() {
+        put_two(
+            words,
+            first + width * usize::from(*place),
+            operation[index],
+            provision[index],
+        );
     }
 }
 

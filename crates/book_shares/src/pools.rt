@@ -54,11 +54,9 @@ pub fn pools_of(book: &[u64], category: u64, side: Side) -> Pools
         chilled: 0,
         frozen: 0,
     };
-    let mut passed = 0;
-    while passed < count {
+    for passed in 0..count {
         let e = book_words::numbered_entry(book, passed + 1);
         pools = pools_with(pools, category, side, e);
-        passed += 1;
     }
     pools
 }
@@ -67,8 +65,8 @@ pub fn pools_of(book: &[u64], category: u64, side: Side) -> Pools
 pub fn group_pool(pools: Pools, group: u64) -> u64
     ensures { result ≡ group_pool pools group }
 {
-    if group == 1 {
-        return pools.chilled;
+    match group {
+        1 => pools.chilled,
+        _ => pools.frozen,
     }
-    pools.frozen
 }

@@ -2,11 +2,11 @@
 // category, by their places.
 ghost use Rattle.std.specs.Prelude.{true, ◌≡◌, ◌<◌, length};
 ghost use Rattle.apportion.specs.Places.{at};
-ghost use Rattle.book_words.specs.Book.{element_at};
+ghost use Rattle.book_words.specs.Book.{elements, element_at};
 ghost use Rattle.book_words.specs.Soundness.{sound};
 ghost use Rattle.book_words.specs.Inner.Steps.{capped};
 ghost use Rattle.book_shares.specs.declared.weights.Measure.TheVariants.{Activity, Mass};
-ghost use Rattle.book_shares.specs.Inner.Members.{Listed, measure_of, weights_at, sum_at, activity_at, mass_at};
+ghost use Rattle.book_shares.specs.Inner.Members.{members as members_of, measure_of, weights_at, sum_at, activity_at, mass_at};
 ghost use Rattle.book_shares.specs.Sums.{receives};
 
 use book_words::Element;
@@ -33,7 +33,7 @@ fn receives(recipients: Recipients, code: u64) -> bool
 }
 
 // The activity of such an element; 0 for any other.
-fn weight(recipients: Recipients, e: Element) -> u64
+fn weight_of(recipients: Recipients, e: Element) -> u64
     ensures { result ≡ measure_of (Activity recipients) e }
 {
     if receives(recipients, e.code) {
@@ -68,64 +68,63 @@ fn capped_measure(measure: Measure, e: Element) -> u64
 {
     match measure {
         // Adding 0 caps it.
-        Measure::Activity(recipients) => book_words::add(weight(recipients, e), 0),
+        Measure::Activity(recipients) => book_words::add(weight_of(recipients, e), 0),
         Measure::Mass => capped_mass(e),
     }
 }
 
-// The element at the place that stands here in the list.
-fn member(book: &[u64], members: &[usize], index: usize) -> Element
+// The element at this place.
+fn element(book: &[u64], place: u16) -> Element
     requires book_value { sound book.now ≡ true }
-    requires listed { Listed book.now members.now }
-    requires index_in_bounds { index < length members.now }
-    ensures { result ≡ element_at book.now (at members.now index) }
+    requires place_in_bounds { place < elements book.now }
+    ensures { result ≡ element_at book.now place }
 {
-    book_words::numbered_element(book, members[index] as u64 + 1)
+    book_words::numbered_element(book, u64::from(place) + 1)
 }
 
-// Writes the weight of each element.
-pub fn set_weights(book: &[u64], members: &[usize], recipients: Recipients, weights: &mut [u64])
-    requires book_value { sound book.now ≡ true }
-    requires listed { Listed book.now members.now }
-    requires weights_len { length weights.old ≡ length members.now }
-    ensures { weights.new ≡ weights_at book.now members.now recipients }
-{
-    let mut next = 0;
-    while next < members.len() {
-        weights[next] = weight(recipients, member(book, members, next));
-        next += 1;
+// The elements of a category in a sound book, by their places.
+#[derive(Clone, Copy)]
+pub struct Members<'a> {
+    pub book: &'a [u64],
+    pub category: u64,
+    pub places: &'a [u16],
+    ghost fine: { sound book.now ≡ true },
+    ghost are: { places.now ≡ members_of book.now category },
+}
+
+impl<'a> Members<'a> {
+    // Writes the weight of each element.
+    pub fn set_weights(self, recipients: Recipients, weights: &mut [u64])
+        requires { length weights.old ≡ length self.places.now }
+        ensures { weights.new ≡ weights_at self.entry.book.now self.entry.places.now recipients }
+    {
+        for (index, weight) in weights.iter_mut().enumerate() {
+            *weight = weight_of(recipients, element(self.book, self.places[index]));
+        }
     }
-}
 
-// The sum of what the elements add.
-fn sum_at(book: &[u64], members: &[usize], measure: Measure) -> u64
-    requires book_value { sound book.now ≡ true }
-    requires listed { Listed book.now members.now }
-    ensures { result ≡ sum_at book.now members.now measure }
-{
-    let mut sum = 0;
-    let mut next = 0;
-    while next < members.len() {
-        sum = book_words::add(sum, capped_measure(measure, member(book, members, next)));
-        next += 1;
+    // The sum of what the elements add.
+    fn sum(self, measure: Measure) -> u64
+        ensures { result ≡ sum_at self.entry.book.now self.entry.places.now measure }
+    {
+        let mut sum = 0;
+        for place in self.places {
+            sum = book_words::add(sum, capped_measure(measure, element(self.book, *place)));
+        }
+        sum
     }
-    sum
-}
 
-// The activity of the elements that a pool goes to: F, C or S.
-pub fn activity_at(book: &[u64], members: &[usize], recipients: Recipients) -> u64
-    requires book_value { sound book.now ≡ true }
-    requires listed { Listed book.now members.now }
-    ensures { result ≡ activity_at book.now members.now recipients }
-{
-    sum_at(book, members, Measure::Activity(recipients))
-}
+    // The activity of the elements that a pool goes to: F, C or S.
+    pub fn activity(self, recipients: Recipients) -> u64
+        ensures { result ≡ activity_at self.entry.book.now self.entry.places.now recipients }
+    {
+        self.sum(Measure::Activity(recipients))
+    }
 
-// P.
-pub fn mass_at(book: &[u64], members: &[usize]) -> u64
-    requires book_value { sound book.now ≡ true }
-    requires listed { Listed book.now members.now }
-    ensures { result ≡ mass_at book.now members.now }
-{
-    sum_at(book, members, Measure::Mass)
+    // P.
+    pub fn mass(self) -> u64
+        ensures { result ≡ mass_at self.entry.book.now self.entry.places.now }
+    {
+        self.sum(Measure::Mass)
+    }
 }

@@ -1,20 +1,12 @@
 -- Laws of tests joined by `&&`, and of choices by a test. Assumes nothing.
-use mathlib.Core.Bool.{Bool, ◌&&◌, true, false, not, true≢false, cond}
+use mathlib.Core.Bool.{Bool, ◌&&◌, true, false, true≢false, cond}
 use mathlib.Core.Path.{◌≡◌, refl, sym}
 use Prim.Native.Nat.{ℕ, ◌≤◌}
 use native.Mathlib.Omega.{arith}
-use borrow.Author.Tests.{not-true, not-false}
 
 pub both : (a b : Bool) → a && b ≡ true → (a ≡ true) × (b ≡ true)
 both true b e = (refl, e)
 both false b e = absurd (true≢false (sym e))
-
--- two tests of the code, each a definition's, where one fails, and where both hold
-pub one-fails : (a b : Bool) {x y : Bool} → a ≡ x → b ≡ y → not (a && b) ≡ true → x && y ≡ false
-one-fails a b p q e = rw (← p, ← q) (not-true (a && b) e)
-
-pub both_hold : (a b : Bool) {x y : Bool} → a ≡ x → b ≡ y → not (a && b) ≡ false → (x ≡ true) × (y ≡ true)
-both_hold a b p q e = rw (← p, ← q) (both a b (not-false (a && b) e))
 
 pub and_both : (a b : Bool) → a ≡ true → b ≡ true → a && b ≡ true
 and_both a b p q = rw (p, q)

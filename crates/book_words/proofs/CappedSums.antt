@@ -3,8 +3,8 @@
 use mathlib.Core.Bool.{Bool, true, false, ◌&&◌}
 use mathlib.Core.Logic.{⊎_elim}
 use mathlib.Core.Path.{ap, ◌≡◌, ◌∙◌, sym}
-use Prim.Native.Nat.{ℕ, ◌≤◌, ◌+◌, ◌*◌, zero, suc, ◌<◌, ◌/◌}
-use native.Mathlib.Nat.{mul-zero, mul-le-mul_left, div-lt_iff_lt-mul, le-div_iff_mul-le}
+use Prim.Native.Nat.{ℕ, ◌≤◌, ◌+◌, ◌*◌, zero, suc, ◌<◌}
+use native.Mathlib.Nat.{mul-zero, mul-le-mul_left}
 use native.Mathlib.Omega.{arith}
 use lib.Dec.{ltb, leb, eqb}
 use borrow.Author.Tests.{lt-ltb, leb-true, lt-leb, ne_eqb}
@@ -44,13 +44,6 @@ capped-rounded q r d h =
     (λ (l : q < suc most_exact). rw (capped_small q (omega arith), rounded q r d h))
     (λ (g : suc most_exact ≤ q). omega (arith, rounded q r d h))
     (below_or_not q (suc most_exact))
-
--- a product by the quotient of its limit
-pub product-over : (a b : ℕ) → 0 < b → most_exact / b < a → most_exact < a * b
-product-over a b some h = (div-lt_iff_lt-mul {x = most_exact} some).0 h
-
-pub product-within : (a b : ℕ) → 0 < b → a ≤ most_exact / b → a * b ≤ most_exact
-product-within a b some h = (le-div_iff_mul-le {y = most_exact} some).0 h
 
 pub capped-more : (a b : ℕ) → capped (a + capped b) ≡ capped (a + b)
 capped-more a b = omega arith

@@ -31,3 +31,5 @@ pub mod ShareSums
 pub mod Passengers
 -- the walk that tests whether they are
 pub mod PassengerWalk
+-- folds over the places of a list
+pub mod Folds

@@ -40,10 +40,6 @@ pub others-mix-not : (ws : List ℕ) (n category code kg_per_head : ℕ) → is_
 unfolding mixes
 others-mix-not ws n category code kg_per_head none = rw none
 
--- the test of the code: a passenger element in the category, as it was read
-pub read-in : (category : ℕ) {t b : Bool} {e r : Element} → r ≡ e → t ≡ is_passenger r.code → t && eqb r.category category ≡ b → is_passenger_in category e ≡ b
-read-in category {r = r} is known e = ap (is_passenger_in category) (sym is) ∙ sym (ap (λ (a : Bool). a && eqb r.category category) known) ∙ e
-
 module _ (ws ws' : List ℕ) (n : ℕ) where
   -- elements that are the same but for their shares mix alike
   module _ (same : (p : ℕ) → p < n → with_shares (element_at ws' p) 0 0 ≡ with_shares (element_at ws p) 0 0) where

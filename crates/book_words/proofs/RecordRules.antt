@@ -7,7 +7,7 @@ use Prim.Native.Nat.{ℕ, zero, suc, ◌<◌, ◌≤◌, ◌+◌, ◌*◌}
 use native.Mathlib.Nat.{eq-zero-or-pos}
 use native.Mathlib.Omega.{arith}
 use lib.Dec.{eqb, eqb-suc-zero, leb, leb-suc-zero}
-use borrow.Author.Tests.{not-true, eqb-true, eq-eqb, ne_eqb, lt-leb, le-leb, leb-true}
+use borrow.Author.Tests.{not-true, eqb-true, eq-eqb, ne_eqb, le-leb, leb-true}
 use Rattle.book_words.specs.declared.records.Category.{Category}
 use Rattle.book_words.specs.declared.records.Element.{Element}
 use Rattle.book_words.specs.declared.records.Entry.{Entry}
@@ -24,10 +24,6 @@ use Rattle.book_words.proofs.Booleans.{both, cond-false, cond-most}
 use Rattle.book_words.proofs.CappedSums.{capped-equal}
 
 module _ (ws : List ℕ) where
-  pub entry-unnumbered : (r : Entry) → not (between 1 (categories ws) r.category) ≡ true → false ≡ entry_fine ws r
-  unfolding entry_fine
-  entry-unnumbered r e = rw (not-true (between 1 (categories ws) r.category) e)
-
   pub entry-numbered : (r : Entry) → between 1 (categories ws) r.category ≡ true → entry_suits (category_of ws r.category) r ≡ entry_fine ws r
   unfolding entry_fine
   entry-numbered r e = rw e
@@ -35,10 +31,6 @@ module _ (ws : List ℕ) where
   pub element-quoted : (r : Element) → r.category ≡ 0 → quoted_suits r ≡ element_fine ws r
   unfolding element_fine
   element-quoted r e = rw (eq-eqb r.category 0 e)
-
-  pub element-unnumbered : (r : Element) → (r.category ≡ 0 → ⊥) → categories ws < r.category → false ≡ element_fine ws r
-  unfolding element_fine
-  element-unnumbered r ne h = rw (ne_eqb r.category 0 ne, lt-leb r.category (categories ws) h)
 
   pub element-numbered : (r : Element) → (r.category ≡ 0 → ⊥) → r.category ≤ categories ws → element_suits (category_of ws r.category) r ≡ element_fine ws r
   unfolding element_fine
@@ -76,10 +68,6 @@ module _ (ws : List ℕ) where
             (λ p. unstruck side (entry_at ws p))
             (λ p i. cond-most (eqb (entry_at ws p).category category) (unstruck side (entry_at ws p))),
       )
-
-  pub shares-open : (place : ℕ) (r : Category) → r ≡ category_at ws place → r.closed ≡ 0 → true ≡ shares_fine ws place
-  unfolding shares_fine
-  shares-open place r e none = rw (ap (λ (x : Category). x.closed) (sym e), eq-eqb r.closed 0 none)
 
   -- in a closed category the capped sums are compared
   pub shares-closed : (place : ℕ) (r : Category) → r ≡ category_at ws place → (r.closed ≡ 0 → ⊥) → Limited ws

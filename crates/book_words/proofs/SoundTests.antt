@@ -1,16 +1,18 @@
 -- What a sound book has. Assumes nothing.
-use mathlib.Core.Bool.{true, ◌&&◌}
+use mathlib.Core.Bool.{Bool, true, ◌&&◌}
 use mathlib.Core.List.{List}
 use mathlib.Core.Path.{◌≡◌, refl, ◌∙◌}
-use Prim.Native.Nat.{ℕ, ◌<◌}
+use Prim.Native.Nat.{ℕ, zero, suc}
 use native.Mathlib.Omega.{arith}
 use lib.Dec.{leb, eqb}
-use lib.ListN.{length}
+use lib.ListN.{length, get_or}
 use borrow.Author.Tests.{leb-true, eqb-true}
 use Rattle.apportion.specs.Places.{at}
 use Rattle.book_words.specs.Book.{mark, book_length, categories, most_categories, entries, most_entries, elements, most_elements}
-use Rattle.book_words.specs.Inner.Steps.{CountsWithin, Limited, list_fine}
+use Rattle.book_words.specs.Inner.Steps.{CountsWithin, Limited, ReadyFor, list_fine}
 use Rattle.book_words.specs.Soundness.{header_fine, sums_fine, categories_fine, entries_fine, elements_fine, passengers_fine, closings_fine, sound, all_below}
+use Rattle.book_words.specs.declared.soundness.TheConstants.{LISTS}
+use Rattle.book_words.specs.declared.soundness.List.TheVariants.{Header}
 use Rattle.book_words.specs.declared.totals.Side.TheVariants.{Operation as operation, Provision as provision}
 use Rattle.book_words.specs.Totals.{sums_of, within_limits}
 use Rattle.book_words.proofs.Booleans.{both}
@@ -54,8 +56,12 @@ module _ (ws : List ℕ) where
   limits-limited e operation = (within-parts (sums_of ws) e).0
   limits-limited e provision = (within-parts (sums_of ws) e).1
 
+  -- the list at this place of the test
+  abbrev pub turn_fine : ℕ → Bool
+  turn_fine k = list_fine ws (get_or LISTS k Header)
+
   -- the lists in their order are the test
-  pub lists-sound : all_below 7 (list_fine ws) ≡ sound ws
+  pub lists-sound : all_below 7 turn_fine ≡ sound ws
   unfolding list_fine sound categories_fine entries_fine elements_fine closings_fine
   lists-sound = refl
 
@@ -72,7 +78,7 @@ module _ (ws : List ℕ) where
   pub sound-parts : sound ws ≡ true → Parts
   unfolding list_fine categories_fine entries_fine elements_fine closings_fine
   sound-parts e =
-      let part = every-at 7 (list_fine ws) (lists-sound ∙ e) in
+      let part = every-at 7 turn_fine (lists-sound ∙ e) in
       record {
         header = part 0 (omega arith);
         all-categories = part 1 (omega arith);
@@ -89,17 +95,18 @@ module _ (ws : List ℕ) where
   pub sound-sums : sound ws ≡ true → within_limits (sums_of ws) ≡ true
   sound-sums e = sums-limits (sound-parts e).sums
 
-  -- past the header the counts are within their limits, past the elements each of these keeps its rules, and past the sums these are
-  -- within theirs
-  module _ (list : ℕ) (before : all_below list (list_fine ws) ≡ true) where
-    pub past-header : 0 < list → CountsWithin ws
-    unfolding list_fine
-    past-header h = header-counted (every-at list (list_fine ws) before 0 h)
-
-    pub past-elements : 3 < list → elements_fine ws ≡ true
-    unfolding list_fine elements_fine
-    past-elements h = every-at list (list_fine ws) before 3 h
-
-    pub past-sums : 5 < list → Limited ws
-    unfolding list_fine
-    past-sums h = limits-limited (sums-limits (every-at list (list_fine ws) before 5 h))
+  -- the lists before one give what its rules take for granted
+  pub ready : (k : ℕ) → all_below k turn_fine ≡ true → ReadyFor (get_or LISTS k Header) ws
+  unfolding list_fine elements_fine
+  ready zero before = tt
+  ready (suc k) before = go k (header-counted (every-at (suc k) turn_fine before 0 (omega arith))) before
+    where
+      go : (k : ℕ) → CountsWithin ws → all_below (suc k) turn_fine ≡ true → ReadyFor (get_or LISTS (suc k) Header) ws
+      go zero counts before = counts
+      go (suc zero) counts before = counts
+      go (suc (suc zero)) counts before = counts
+      go (suc (suc (suc zero))) counts before = (counts, every-at 4 turn_fine before 3 (omega arith))
+      go (suc (suc (suc (suc zero)))) counts before = counts
+      go (suc (suc (suc (suc (suc zero))))) counts before =
+          (counts, limits-limited (sums-limits (every-at 6 turn_fine before 5 (omega arith))))
+      go (suc (suc (suc (suc (suc (suc k)))))) counts before = tt

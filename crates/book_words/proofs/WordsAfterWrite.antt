@@ -3,10 +3,9 @@ use mathlib.Core.List.{List, ◌++◌, [], ◌∷◌}
 use mathlib.Core.Path.{◌≡◌, refl, ◌∙◌, ap, sym}
 use Prim.Native.Nat.{ℕ, zero, suc, ◌-◌, ◌<◌, ◌≤◌, ◌+◌}
 use native.Mathlib.Nat.{add-zero, add-suc, suc-add}
-use native.Mathlib.Numerals.{add-one}
 use native.Mathlib.Omega.{arith}
-use lib.ListN.{length, set, length-set, drop, drop_of_length-le}
-use lib.Seq.{sets, get_or-set_other, get_or-set_same, get_or-append-add, get_or-drop, drop-cons}
+use lib.ListN.{length, set, length-set, drop}
+use lib.Seq.{sets, get_or-set_other, get_or-set_same, get_or-append-add, get_or-drop}
 use Rattle.apportion.specs.Places.{at, list_below}
 use Rattle.apportion.proofs.Lists.{filled, list_length}
 
@@ -36,21 +35,6 @@ pub record Storing (words old : List ℕ) (start i : ℕ) (new : List ℕ) : Typ
   pub inside : i ≤ length words
   pub same_length : length new ≡ length old
   pub so_far : sets new (start + i) (drop i words) ≡ sets old start words
-
-pub storing-start : (words old : List ℕ) (start : ℕ) → Storing words old start 0 old
-storing-start words old start = record { inside = omega arith; same_length = refl; so_far = rw add-zero }
-
-module _ {words old new : List ℕ} {start i : ℕ} (s : Storing words old start i new) where
-  pub storing-next : i < length words → Storing words old start (i + 1) (set new (start + i) (at words i))
-  storing-next h =
-      record {
-        inside = omega arith;
-        same_length = length-set new (start + i) (at words i) ∙ s.same_length;
-        so_far = rw (add-one, add-suc) (rw (drop-cons words i 0) at s.so_far);
-      }
-
-  pub storing-done : length words ≤ i → new ≡ sets old start words
-  storing-done h = rw (drop_of_length-le words {i = i} h) at s.so_far
 
 -- past the part of a slice that is written anew the old words stand
 pub front-past : (front old : List ℕ) (n k : ℕ) → length front ≡ n → n ≤ k → at (front ++ drop n old) k ≡ at old k

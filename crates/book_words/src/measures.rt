@@ -14,52 +14,52 @@ pub const STANDARD_MASS: u64 = 100;
 pub fn is_kind(kind: u64) -> bool
     ensures { result ≡ is_kind kind }
 {
-    (1 <= kind) & (kind <= 4)
+    (1..=4).contains(&kind)
 }
 
 pub fn is_chain(chain: u64) -> bool
     ensures { result ≡ is_chain chain }
 {
-    (1 <= chain) & (chain <= MOST_CHAINS)
+    (1..=MOST_CHAINS).contains(&chain)
 }
 
 pub fn is_code(code: u64) -> bool
     ensures { result ≡ is_code code }
 {
-    (code <= 2) | is_passenger(code)
+    code <= 2 || is_passenger(code)
 }
 
 // A passenger class.
 pub fn is_passenger(code: u64) -> bool
     ensures { result ≡ is_passenger code }
 {
-    (100 <= code) & (code <= 1000)
+    (100..=1000).contains(&code)
 }
 
 // Freight in kind 2, or passengers in kind 1 or 4.
 pub fn unsuited(kind: u64, code: u64) -> bool
     ensures { result ≡ unsuited kind code }
 {
-    ((code <= 2) & (kind == 2)) | (is_passenger(code) & ((kind == 1) | (kind == 4)))
+    (code <= 2 && kind == 2) || (is_passenger(code) && (kind == 1 || kind == 4))
 }
 
 // Group 1 or 2 in kind 2.
 pub fn unsuited_group(kind: u64, group: u64) -> bool
     ensures { result ≡ unsuited_group kind group }
 {
-    ((1 <= group) & (group <= 2)) & (kind == 2)
+    (1..=2).contains(&group) && kind == 2
 }
 
 pub fn is_mass(mass: u64) -> bool
     ensures { result ≡ is_mass mass }
 {
-    (1 <= mass) & (mass <= 1_000_000_000)
+    (1..=1_000_000_000).contains(&mass)
 }
 
 fn is_heads(heads: u64) -> bool
     ensures { result ≡ is_heads heads }
 {
-    (1 <= heads) & (heads <= 1_000_000)
+    (1..=1_000_000).contains(&heads)
 }
 
 // A mass, or a head count.
@@ -67,15 +67,16 @@ pub fn is_amount(code: u64, amount: u64) -> bool
     ensures { result ≡ is_amount code amount }
 {
     if code <= 2 {
-        return is_mass(amount);
+        is_mass(amount)
+    } else {
+        is_heads(amount)
     }
-    is_heads(amount)
 }
 
 pub fn is_distance(distance: u64) -> bool
     ensures { result ≡ is_distance distance }
 {
-    (1 <= distance) & (distance <= 40_000_000)
+    (1..=40_000_000).contains(&distance)
 }
 
 // Only 0 in a hub.
@@ -83,9 +84,10 @@ pub fn is_distance_in(kind: u64, distance: u64) -> bool
     ensures { result ≡ is_distance_in kind distance }
 {
     if kind == 4 {
-        return distance == 0;
+        distance == 0
+    } else {
+        is_distance(distance)
     }
-    is_distance(distance)
 }
 
 // 0 to 300 for passengers, 0 alone for freight.
@@ -108,12 +110,14 @@ pub fn mass_per_head(kg_per_head: u64) -> u64
     ensures { result ≡ mass_per_head kg_per_head }
 {
     if is_weighed(kg_per_head) {
-        return kg_per_head;
+        kg_per_head
+    } else {
+        STANDARD_MASS
     }
-    STANDARD_MASS
 }
 
 // The activity of an amount over a distance, capped.
+#[tactic(auto, unfolding(crate::specs::Measures::activity_of))]
 pub fn activity(kind: u64, code: u64, amount: u64, distance: u64) -> u64
     ensures { result ≡ capped (activity_of kind code amount distance) }
 {
@@ -121,7 +125,7 @@ pub fn activity(kind: u64, code: u64, amount: u64, distance: u64) -> u64
         return totals::multiply(totals::multiply(amount, code), distance);
     }
     if kind == 4 {
-        return totals::add(amount, 0);
+        return totals::capped(amount);
     }
     totals::multiply(amount, distance)
 }

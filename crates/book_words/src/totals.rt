@@ -29,47 +29,42 @@ pub enum Side {
 }
 
 // An amount of operation and one of provision, kept apart.
-#[derive(Clone, Copy)]
+#[derive(Clone, Copy, Default, PartialEq, Eq)]
 pub struct Amounts {
     pub operation: u64,
     pub provision: u64,
 }
 
 // The sums of ground 10: unstruck entries plus quoted shares, and the activity over all elements.
-#[derive(Clone, Copy)]
+#[derive(Clone, Copy, Default)]
 pub struct Sums {
     pub operation: u64,
     pub provision: u64,
     pub activity: u64,
 }
 
+// A number as far as it is exact.
+pub fn capped(n: u64) -> u64
+    ensures { result ≡ capped n }
+{
+    n.min(MOST_EXACT + 1)
+}
+
 // a + b, capped.
 pub fn add(a: u64, b: u64) -> u64
     ensures { result ≡ capped (a + b) }
 {
-    if a > MOST_EXACT {
-        return MOST_EXACT + 1;
-    }
-    if b > MOST_EXACT - a {
-        return MOST_EXACT + 1;
-    }
-    a + b
+    capped(a.saturating_add(b))
 }
 
 // a × b, capped.
 pub fn multiply(a: u64, b: u64) -> u64
     ensures { result ≡ capped (a * b) }
 {
-    if b == 0 {
-        return 0;
-    }
-    if a > MOST_EXACT / b {
-        return MOST_EXACT + 1;
-    }
-    a * b
+    capped(a.saturating_mul(b))
 }
 
-// Both sides of a + b, capped.
+// Both sides of a + b, capped: no `impl Add`, whose `+` would hide the cap.
 fn add_sides(a: Amounts, b: Amounts) -> Amounts
     ensures { result ≡ by_sides (λ s. capped (side_of s a + side_of s b)) }
 {
@@ -83,13 +78,7 @@ fn add_sides(a: Amounts, b: Amounts) -> Amounts
 fn amounts_where(test: bool, amounts: Amounts) -> Amounts
     ensures { result ≡ by_sides (λ s. cond test (side_of s amounts) 0) }
 {
-    if test {
-        return amounts;
-    }
-    Amounts {
-        operation: 0,
-        provision: 0,
-    }
+    if test { amounts } else { Amounts::default() }
 }
 
 // What an entry adds: its amounts, or nothing where it is struck.
@@ -115,17 +104,9 @@ pub fn capped_unstruck_of(book: &[u64], category: u64) -> Amounts
     requires { CountsWithin book.now }
     ensures { result ≡ by_sides (λ s. capped (unstruck_of book.now category s)) }
 {
-    let count = book[records::ENTRIES] as usize;
-    let mut sum = Amounts {
-        operation: 0,
-        provision: 0,
-    };
-    let mut place = 0;
-    while place < count {
-        sum = add_sides(sum, unstruck_in(category, records::read_entry(book, place)));
-        place += 1;
-    }
-    sum
+    (0..book[records::ENTRIES] as usize).fold(Amounts::default(), |sum, place| {
+        add_sides(sum, unstruck_in(category, records::read_entry(book, place)))
+    })
 }
 
 // The shares of an element of this category; nothing for another's.
@@ -144,25 +125,18 @@ pub fn capped_shares_of(book: &[u64], category: u64) -> Amounts
     requires { CountsWithin book.now }
     ensures { result ≡ by_sides (λ s. capped (shares_of book.now category s)) }
 {
-    let count = book[records::ELEMENTS] as usize;
-    let mut sum = Amounts {
-        operation: 0,
-        provision: 0,
-    };
-    let mut place = 0;
-    while place < count {
-        sum = add_sides(sum, share_in(category, records::read_element(book, place)));
-        place += 1;
-    }
-    sum
+    (0..book[records::ELEMENTS] as usize).fold(Amounts::default(), |sum, place| {
+        add_sides(sum, share_in(category, records::read_element(book, place)))
+    })
 }
 
 // An element's activity in ground 10, passengers by the standard mass.
+#[tactic(auto, unfolding(crate::specs::Measures::standard_activity))]
 fn capped_standard_activity(e: Element) -> u64
     ensures { result ≡ capped (standard_activity e) }
 {
     if e.code <= 2 {
-        return add(0, e.activity);
+        return capped(e.activity);
     }
     multiply(multiply(e.amount, measures::STANDARD_MASS), e.distance)
 }
@@ -172,18 +146,9 @@ fn entry_sums(book: &[u64]) -> Sums
     requires { CountsWithin book.now }
     ensures { result ≡ cap_sums (sums_below book.now (entries book.now) 0) }
 {
-    let count = book[records::ENTRIES] as usize;
-    let mut sums = Sums {
-        operation: 0,
-        provision: 0,
-        activity: 0,
-    };
-    let mut place = 0;
-    while place < count {
-        sums = capped_with_entry(sums, records::read_entry(book, place));
-        place += 1;
-    }
-    sums
+    (0..book[records::ENTRIES] as usize).fold(Sums::default(), |sums, place| {
+        capped_with_entry(sums, records::read_entry(book, place))
+    })
 }
 
 // The sums over a book, each capped: those of its entries, with each element added.
@@ -191,14 +156,9 @@ pub fn capped_sums(book: &[u64]) -> Sums
     requires { CountsWithin book.now }
     ensures { result ≡ cap_sums (sums_of book.now) }
 {
-    let count = book[records::ELEMENTS] as usize;
-    let mut sums = entry_sums(book);
-    let mut place = 0;
-    while place < count {
-        sums = capped_with_element(sums, records::read_element(book, place));
-        place += 1;
-    }
-    sums
+    (0..book[records::ELEMENTS] as usize).fold(entry_sums(book), |sums, place| {
+        capped_with_element(sums, records::read_element(book, place))
+    })
 }
 
 // The sums over a book that is known to be sound.
@@ -217,7 +177,7 @@ pub fn capped_with_entry(sums: Sums, e: Entry) -> Sums
     Sums {
         operation: add(sums.operation, added.operation),
         provision: add(sums.provision, added.provision),
-        activity: add(sums.activity, 0),
+        activity: capped(sums.activity),
     }
 }
 
@@ -237,7 +197,7 @@ pub fn capped_with_element(sums: Sums, e: Element) -> Sums
 pub fn are_within(sums: Sums) -> bool
     ensures { result ≡ within_limits sums }
 {
-    (sums.operation <= MOST_EMISSIONS)
-        & (sums.provision <= MOST_EMISSIONS)
-        & (sums.activity <= MOST_ACTIVITY)
+    sums.operation <= MOST_EMISSIONS
+        && sums.provision <= MOST_EMISSIONS
+        && sums.activity <= MOST_ACTIVITY
 }

@@ -4,14 +4,14 @@ use Rattle.apportion.specs.Places.{one_if}
 use Rattle.book_words.specs.Book.{book_length}
 use Rattle.book_words.specs.declared.totals.Side.TheVariants.{Operation as operation, Provision as provision}
 use Rattle.book.specs.ClassTotal.{class_total}
-use Rattle.book.specs.declared.replies.Statement.{Statement}
+use Rattle.book.specs.Statements.{StatementReply}
 use Rattle.conservation.specs.declared.Call.{Call}
 use Rattle.conservation.specs.Conserved.{sum_over, waits_in, emissions}
 use Rattle.conservation.specs.Runs.{run_of}
 use Rattle.conservation.specs.Tally.{Tally}
 
 -- how many elements the tally has, how many of them wait, and the emissions that demand 3 counts
-abbrev pub class_total_in : Tally → Statement
+abbrev pub class_total_in : Tally → StatementReply
 class_total_in t =
     record {
       refusal = 0;

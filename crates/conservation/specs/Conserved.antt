@@ -14,7 +14,7 @@ use Rattle.book_shares.specs.declared.weights.Recipients.{Recipients}
 use Rattle.book_shares.specs.declared.weights.Recipients.TheVariants.{Freight, Passengers, Group}
 use Rattle.book_shares.specs.Shares.{exact_share}
 use Rattle.book_shares.specs.Sums.{if_recipient}
-use Rattle.book.specs.declared.replies.Statement.{Statement}
+use Rattle.book.specs.Statements.{StatementReply}
 use Rattle.book.specs.Calls.{fresh_refusal}
 use Rattle.book.specs.Statements.{statement_reply}
 use Rattle.conservation.specs.declared.Call.{Call}
@@ -53,7 +53,7 @@ abbrev pub chain_gets : Tally → List ℕ → ℕ → Side → ℕ
 chain_gets t ws chain side = sum_numbered t.elements (λ k e. cond (eqb (chain_of e) chain) (gets ws k side) 0)
 
 -- the statement that "adds the shares of its own chain's elements and no others"
-abbrev pub statement_in : Tally → List ℕ → ℕ → Statement
+abbrev pub statement_in : Tally → List ℕ → ℕ → StatementReply
 statement_in t ws chain =
     record {
       refusal = 0;
@@ -73,7 +73,7 @@ abbrev pub quoted_on : Side → Quotation → ℕ
 quoted_on operation q = q.operation
 quoted_on provision q = q.provision
 
-abbrev pub stated_on : Side → Statement → ℕ
+abbrev pub stated_on : Side → StatementReply → ℕ
 stated_on operation s = s.operation
 stated_on provision s = s.provision
 

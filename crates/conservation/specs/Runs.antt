@@ -1,7 +1,9 @@
 -- A call on a book, and a list of them. Assumes nothing.
-use Rattle.std.specs.Prelude.{List, [], ◌∷◌, ℕ}
-use Rattle.book.specs.declared.replies.Reply.{Reply}
-use Rattle.book.specs.Calls.{refusal_alone, fresh_book, open_reply, open_book, post_reply, post_book, strike_refusal, strike_book, enrol_reply, enrol_book, quote_reply, quote_book}
+use Rattle.std.specs.Prelude.{List, [], ◌∷◌, ℕ, Option, Some, None, Result, Ok, Err}
+use Rattle.apportion.specs.Refusals.{number_of}
+use Rattle.apportion.specs.declared.refusing.Refusal.{Refusal}
+use Rattle.book.specs.Calls.{fresh_book, open_reply, open_book, post_reply, post_book, strike_refusal, strike_book, enrol_reply, enrol_book, quote_reply, quote_book}
+use Rattle.book.specs.Replies.{Reply, refusal_alone, reply_of}
 use Rattle.book.specs.Lines.{line_reply, line_book}
 use Rattle.book_shares.specs.Closing.{close_refusal, close_book}
 use Rattle.conservation.specs.declared.Call.{Call}
@@ -12,6 +14,12 @@ use Rattle.conservation.specs.Tally.{Tally, empty_tally, feed}
 pub record Step : Type 0 where
   pub reply : Reply
   pub book : List ℕ
+
+-- what an answer returns, for each of its cases: a call that appends no record has the number 0
+abbrev pub step_reply_in : Result (Option ℕ) Refusal → Reply
+step_reply_in (Ok (Some number)) = reply_of 0 number
+step_reply_in (Ok None) = refusal_alone 0
+step_reply_in (Err refusal) = refusal_alone (number_of refusal)
 
 -- a call; the contract of `perform` is that it answers and leaves this
 abbrev pub step : List ℕ → Call → Step

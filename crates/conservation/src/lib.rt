@@ -3,9 +3,10 @@
 #![tactic(auto)]
 
 ghost use Rattle.std.specs.Prelude.{◌≡◌};
-ghost use Rattle.conservation.specs.Runs.{step};
+ghost use Rattle.conservation.specs.Runs.{step, step_reply_in};
 
-use book::{EnrolArguments, LineArguments, PostArguments, QuoteArguments, Reply};
+use apportion::Refusal;
+use book::{EnrolArguments, LineArguments, PostArguments, QuoteArguments};
 
 // A call of a list, with its arguments. A list starts from a fresh book; statement and intensity are lent the
 // words to read only.
@@ -23,18 +24,18 @@ pub enum Call {
     Close(u64),
 }
 
-// Makes the call on the book. Strike and close return no number: it is 0.
-pub fn perform(book: &mut [u64], call: Call) -> Reply
-    ensures value { result ≡ (step book.old call).reply }
+// Makes the call on the book, and answers the number of the record that it appended. Strike and close append none.
+pub fn perform(book: &mut [u64], call: Call) -> Result<Option<u64>, Refusal>
+    ensures value { step_reply_in result ≡ (step book.old call).reply }
     ensures book_after { book.new ≡ (step book.old call).book }
 {
     match call {
-        Call::Open(kind) => book::open(book, kind),
-        Call::Post(p) => book::post(book, p),
-        Call::Line(l) => book::post_line(book, l),
-        Call::Strike(entry) => book::refusal_alone(book::strike(book, entry)),
-        Call::Enrol(e) => book::enrol(book, e),
-        Call::Quote(q) => book::quote(book, q),
-        Call::Close(category) => book::refusal_alone(book::close(book, category)),
+        Call::Open(kind) => book::open(book, kind).map(Some),
+        Call::Post(p) => book::post(book, p).map(Some),
+        Call::Line(l) => book::post_line(book, l).map(Some),
+        Call::Strike(entry) => book::strike(book, entry).map(|()| None),
+        Call::Enrol(e) => book::enrol(book, e).map(Some),
+        Call::Quote(q) => book::quote(book, q).map(Some),
+        Call::Close(category) => book::close(book, category).map(|()| None),
     }
 }

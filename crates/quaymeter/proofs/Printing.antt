@@ -16,16 +16,14 @@ use Rattle.book_file.specs.declared.answers.Place.{Place}
 use Rattle.book_words.specs.Book.{book_length}
 use Rattle.book_words.specs.Soundness.{sound}
 use Rattle.report.proofs.Laws.{sheet-fits, refused-fits, fitting-written, fitting-buffer}
-use Rattle.report.specs.Printing.{printed_numbers, answer_for, buffer_with}
-use Rattle.report.specs.Inner.Steps.{bytes_written}
+use Rattle.std.proofs.Common.{Ok}
+use Rattle.report.specs.Printing.{Printed, answer_for, buffer_with}
 use Rattle.report.specs.Sheet.{sheet_text, sheet_room, refused_text}
-use Rattle.report.specs.declared.printing.Printed.{Printed}
 use Rattle.quaymeter.specs.Program.{refused_line, text_for, printed_from}
 
 -- a text that fits is printed whole
-pub whole_length : (text : List ℕ) (room : ℕ) {answer : Printed} → answer ≡ answer_for text room → length text ≤ room
-    → bytes_written (printed_numbers answer) ≡ length text
-whole_length text room is h = ap (λ (a : Printed). bytes_written (printed_numbers a)) (is ∙ fitting-written text room h)
+pub printed-whole : (text : List ℕ) (room : ℕ) {answer : Printed} → answer ≡ answer_for text room → length text ≤ room → answer ≡ Ok (length text)
+printed-whole text room is h = is ∙ fitting-written text room h
 
 -- the sheet of a book, or the line of a refusal
 fits-for : (answer : Load) (book : List ℕ) → (answer ≡ Loaded → sound book ≡ true) → length (text_for answer book) ≤ sheet_room

@@ -1,6 +1,6 @@
 -- Demand 3 of what is printed, from the bytes of a file to the numbers of its sheet's last line. Assumes nothing.
 use Rattle.std.specs.Prelude.{ℕ, List, [], ◌∷◌, ◌≡◌}
-use Rattle.book.specs.declared.replies.Statement.{Statement}
+use Rattle.book.specs.Statements.{StatementReply}
 use Rattle.conservation.specs.ClassTotal.{class_total_in}
 use Rattle.conservation.specs.Conserved.{Conserved}
 use Rattle.conservation.specs.Runs.{Run, run_of}
@@ -16,7 +16,7 @@ abbrev pub run_of_file : List ℕ → Run
 run_of_file file = run_of zero_words (calls_of (tasks_of file))
 
 -- its class total, from the tally of these calls alone
-abbrev pub total_of_file : List ℕ → Statement
+abbrev pub total_of_file : List ℕ → StatementReply
 total_of_file file = class_total_in (run_of_file file).tally
 
 -- what is printed for a file that is loaded: the sheet of the book that its calls leave; of that book demand 3 holds; and the last line

@@ -6,14 +6,11 @@ ghost use Rattle.book_file.specs.Answers.{place_numbers};
 ghost use Rattle.book_file.specs.File.{most_bytes};
 ghost use Rattle.book_file.specs.Loading.{load_book};
 ghost use Rattle.book_words.specs.Soundness.{sound};
-ghost use Rattle.report.specs.Printing.{printed_numbers, buffer_with};
-ghost use Rattle.report.specs.Inner.Steps.{bytes_written};
+ghost use Rattle.report.specs.Printing.{buffer_with};
 ghost use Rattle.report.specs.Sheet.{sheet_text, sheet_room};
 ghost use Rattle.quaymeter.specs.Program.{refused_line, printed_from, printed};
 
 use book_file::{Load, Place};
-use report::Printed;
-use std::io::Read;
 
 // One byte more than the longest file, so that a longer input is refused and not cut.
 const INPUT_ROOM: usize = 16_385;
@@ -49,7 +46,7 @@ fn print_book(book: &[u64], out: &mut [u8]) -> usize
     ensures value { result ≡ length (sheet_text book.now) }
     ensures out_after { out.new ≡ buffer_with (sheet_text book.now) out.old }
 {
-    bytes_written(report::sheet_sound(book, out))
+    report::sheet_sound(book, out).unwrap()
 }
 
 // Prints the line of a stop at a place.
@@ -59,18 +56,7 @@ fn print_refusal(number: u64, place: Place, out: &mut [u8]) -> usize
     ensures out_after { out.new ≡ buffer_with (refused_line (place_numbers number place)) out.old }
 {
     let numbers = book_file::numbers_of(Load::Stopped(number, place));
-    bytes_written(report::refusal_line(numbers.refusal, numbers.table, numbers.record, out))
-}
-
-// How many bytes are printed.
-fn bytes_written(answer: Printed) -> usize
-    ensures { result ≡ bytes_written (printed_numbers answer) }
-{
-    match answer {
-        Printed::Written(count) => count,
-        Printed::TooSmall(_) => 0,
-        Printed::Refused(_) => 0,
-    }
+    report::refusal_line(numbers.refusal, numbers.table, numbers.record, out).unwrap()
 }
 
 // Reads the input, or its first bytes where it is longer than any file: the buffer has room for the byte that shows it. A read
@@ -79,16 +65,7 @@ fn read_input(rt: &HostRuntime, input: &mut [u8]) -> usize
     requires { most_bytes < length input.old }
     ensures { (result ≤ length input.new) × (result ≡ length (take result input.new)) }
 {
-    let mut stdin = rt.stdin();
-    let mut done = 0;
-    while done < input.len() {
-        let count = stdin.read(&mut input[done..]).unwrap_or(0);
-        if count == 0 {
-            break;
-        }
-        done += count;
-    }
-    done
+    book_file::read_full(&mut rt.stdin(), input)
 }
 
 // Writes what is to be printed for a file. A write that fails is told on standard error.

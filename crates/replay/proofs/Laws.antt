@@ -26,7 +26,7 @@ use Rattle.replay.specs.Replay.{bad, lent_count, lent_words, with_cells, called,
 use Rattle.replay.specs.Replay.{Machine}
 use Rattle.replay.specs.Stages.{record_bytes, Stage, on_machine, counted, due, operated, handled, replayed_of, records_in, replayed}
 use Rattle.replay.specs.Words.{words_of}
-use Rattle.replay.proofs.OperationTests.{cond-through}
+use Rattle.replay.proofs.Stages.{cond-through}
 
 -- the words that a call leaves stand where the lent ones stood
 given_back : (n : ℕ) (memory book : List ℕ) → length book ≡ length (take n memory) → take n (book ++ drop n memory) ≡ book

@@ -1,67 +1,21 @@
--- What the records do, from the tests that the code makes. Assumes nothing.
-use Prim.Native.Nat.{ℕ, suc, ◌+◌, ◌-◌, ◌<◌, ◌≤◌, min}
+-- What the records do, one after the other. Assumes nothing.
+use Prim.Native.Nat.{ℕ, zero, suc, ◌+◌, ◌≤◌, ◌<◌, min}
 use native.Mathlib.Omega.{arith}
-use mathlib.Core.Bool.{Bool, true, false, ◌&&◌}
-use mathlib.Core.List.{List, [], ◌++◌, append_assoc}
+use mathlib.Core.Bool.{Bool, true, false, cond, ◌&&◌}
+use mathlib.Core.List.{List, [], ◌∷◌, ◌++◌, append-nil}
 use mathlib.Core.Path.{◌≡◌, refl, ap, sym, ◌∙◌}
-use borrow.Author.Tests.{eq-eqb, ne_eqb, le-ltb, le-leb, lt-leb}
-use mir.Val.{bool_byte}
-use lib.Dec.{ltb}
-use lib.ListN.{length, take, drop, length-drop}
-use lib.Seq.{length-take-le, take-length, take-append-add, take-append_seam}
-use Rattle.apportion.specs.Places.{one_if}
+use borrow.Author.Tests.{le-ltb, le-leb}
+use lib.ListN.{length, drop, length-append, drop_of_length-le, get_or-append}
+use lib.Seq.{take-append-le, drop-append_seam}
+use Rattle.book_file.specs.Bytes.{little_endian, number_at}
 use Rattle.book_words.proofs.Booleans.{cond_same}
-use Rattle.replay.specs.declared.records.Words.{Words}
-use Rattle.replay.specs.declared.state.State.{State}
-use Rattle.replay.specs.Replay.{bad, changed, performed}
-use Rattle.replay.specs.Stages.{record_bytes, file_room, Stage, stage_of, on_machine, with_file, counted, due, taken, operated, handled, replayed, records_in}
-use Rattle.replay.proofs.OperationTests.{cond-through, take-first}
+use Rattle.replay.specs.Stages.{record_bytes, Stage, counted, due, handled, operated, replayed, records_in}
+use Rattle.replay.specs.Words.{words_of}
 
--- a bad record, after which no operation is due
-pub due-none : (words : Words) (stage : Stage) → due 0 words (on_machine bad stage) ≡ on_machine bad stage
-unfolding due performed changed
-due-none words stage = cond_same (ltb 0 stage.missing) (on_machine bad stage)
-
--- the words of a record, where no byte of a file is missing: a file that is too long, a file that is to come, and any other
-module _ (words : Words) (stage : Stage) where
-  pub operate-long : stage.missing ≤ 0 → words.operation ≡ 15 → file_room < words.first → due 0 words stage ≡ operated words stage
-  unfolding due performed changed operated
-  operate-long none is long = rw (le-ltb 0 stage.missing none, eq-eqb words.operation 15 is, lt-leb words.first file_room long)
-
-  pub operate-file : words.operation ≡ 15 → words.first ≤ file_room
-      → due words.operation words (with_file [] words.first stage) ≡ operated words stage
-  unfolding operated
-  operate-file is fits =
-      rw (eq-eqb words.operation 15 is, le-leb words.first file_room fits)
-      (ap (λ (operation : ℕ). due operation words (with_file [] words.first stage)) is)
-
-  pub operate-other : (words.operation ≡ 15 → ⊥) → due words.operation words stage ≡ operated words stage
-  unfolding operated
-  operate-other ne = rw (ne_eqb words.operation 15 ne)
-
--- a record of bytes of a file: `count` of them are copied behind the first `come` of the file
-module _ (memory buffer file bytes part rest post : List ℕ) (state : State) (come count : ℕ)
-    (count-is : count ≡ min state.missing record_bytes) (come-is : come ≡ min state.come (file_room - count))
-    (size : length file ≡ file_room) (enough : record_bytes ≤ length bytes)
-    (is : part ≡ take (length (take count bytes)) (take count bytes) ++ rest) where
-  bytes-copied : take (come + count) (take come file ++ (part ++ post)) ≡ take come file ++ take count bytes
-  bytes-copied =
-      let more = take count bytes ++ (rest ++ post) in
-      rw (is, take-length (take count bytes), append_assoc (take count bytes) rest post)
-      (ap (λ (k : ℕ). take (k + count) (take come file ++ more)) (sym (length-take-le come file (omega arith)))
-      ∙ take-append-add (take come file) more count
-      ∙ ap (λ (k : ℕ). take come file ++ take k more) (sym (length-take-le count bytes (omega arith)))
-      ∙ ap (λ (xs : List ℕ). take come file ++ xs) (take-append_seam (take count bytes) (rest ++ post)))
-
-  pub take_done :
-      with_file (take (come + count) (take come file ++ (part ++ post))) (state.missing - count) (stage_of memory file buffer state)
-      ≡ taken bytes (stage_of memory file buffer state)
-  take_done = rw (bytes-copied, come-is, ← take-first state.come (file_room - count) file, count-is)
-
--- a Bool as a number: 1 is added for the record that did not come
-pub one_more : (test : Bool) → bool_byte test ≡ one_if test
-one_more true = refl
-one_more false = refl
+-- what is made of the one or the other
+pub cond-through : {A B : Type 0} (f : A → B) (test : Bool) (one other : A) → f (cond test one other) ≡ cond test (f one) (f other)
+cond-through f true one other = refl
+cond-through f false one other = refl
 
 -- records are counted where they are read, and nowhere else
 handled-passed : (bytes : List ℕ) (stage : Stage) → (handled bytes stage).passed ≡ stage.passed
@@ -73,17 +27,71 @@ pub unfailed-bad : (good ok : Bool) → (good && ok) ≡ false → ok ≡ true �
 unfailed-bad true ok either written = sym written ∙ either
 unfailed-bad false ok either written = refl
 
--- a turn of the loop over the records of a chunk, after which the stage is `next`
-module _ (bytes : List ℕ) (stage next : Stage) (more : 0 < length bytes) (done : next ≡ handled bytes (counted stage)) where
-  one-record : records_in bytes ≡ suc (records_in (drop record_bytes bytes))
-  one-record = rw length-drop (omega arith)
+-- a number that ends within the bytes in front
+spelled : (width : ℕ) (front more : List ℕ) (position : ℕ) → position + width ≤ length front
+    → little_endian width (front ++ more) position ≡ little_endian width front position
+spelled zero front more position h = refl
+spelled (suc width) front more position h =
+    let inside : position < length front = omega arith in
+    rw (get_or-append front more 0 position inside, spelled width front more (position + 1) (omega arith))
 
-  pub replay-on : next.machine.good ≡ true → replayed (drop record_bytes bytes) next ≡ replayed bytes stage
-  replay-on good = rw (one-record, ← done, good)
+number-front : (width : ℕ) (front more : List ℕ) (position : ℕ) → position + width ≤ length front
+    → number_at width (front ++ more) position ≡ number_at width front position
+unfolding number_at
+number-front width front more position h =
+    rw (le-leb (position + width) (length front) h, le-leb (position + width) (length (front ++ more)) (simp length-append (omega arith)), spelled width front more position h)
 
-  pub replay-stop : next.machine.good ≡ false → next ≡ replayed bytes stage
-  replay-stop ended = rw (one-record, ← done, ended)
+words-front : (front more : List ℕ) → record_bytes ≤ length front → words_of (front ++ more) ≡ words_of front
+words-front front more h =
+    rw (
+      number-front 8 front more 0 (omega arith),
+      number-front 8 front more 8 (omega arith),
+      number-front 8 front more 16 (omega arith),
+      number-front 8 front more 24 (omega arith),
+      number-front 8 front more 32 (omega arith),
+      number-front 8 front more 40 (omega arith),
+      number-front 8 front more 48 (omega arith),
+      number-front 8 front more 56 (omega arith),
+    )
+
+-- a record is handled by its own bytes, and what follows it is left
+module _ (front : List ℕ) where
+  handled-front : (more : List ℕ) (stage : Stage) → length front ≡ min record_bytes (length (front ++ more))
+      → handled front stage ≡ handled (front ++ more) stage
+  unfolding handled
+  handled-front [] stage sized = rw append-nil
+  handled-front (b ∷ more) stage sized =
+      let whole : record_bytes ≤ length front = omega (arith, length-append front (b ∷ more)) in
+      rw (
+        words-front front (b ∷ more) whole,
+        le-ltb (length front) record_bytes whole,
+        le-ltb (length (front ++ (b ∷ more))) record_bytes (omega (arith, length-append front (b ∷ more))),
+        take-append-le (min stage.missing record_bytes) front (b ∷ more) (omega arith),
+      )
+
+  left-behind : (more : List ℕ) → length front ≡ min record_bytes (length (front ++ more)) → drop record_bytes (front ++ more) ≡ more
+  left-behind [] sized =
+      let few : length front ≤ record_bytes = omega (arith, sized) in
+      rw append-nil (drop_of_length-le front few)
+  left-behind (b ∷ more) sized =
+      let whole : length front ≡ record_bytes = omega (arith, length-append front (b ∷ more)) in
+      rw (← whole) (drop-append_seam front (b ∷ more))
+
+-- a turn of the loop over the records of a chunk, of which `front` is the next; the stage after it is `next`
+module _ (front more : List ℕ) (stage next : Stage) (sized : length front ≡ min record_bytes (length (front ++ more)))
+    (some : 0 < length (front ++ more)) (done : next ≡ handled front (counted stage)) where
+  one-record : records_in (front ++ more) ≡ suc (records_in more)
+  one-record = omega (arith, sized, length-append front more)
+
+  whole-done : next ≡ handled (front ++ more) (counted stage)
+  whole-done = done ∙ handled-front front more (counted stage) sized
+
+  pub replay-on : next.machine.good ≡ true → replayed more next ≡ replayed (front ++ more) stage
+  replay-on good = rw (one-record, left-behind front more sized, ← whole-done, good)
+
+  pub replay-stop : next.machine.good ≡ false → next ≡ replayed (front ++ more) stage
+  replay-stop ended = rw (one-record, ← whole-done, ended)
 
   -- and one record more is counted
   pub one-passed : next.passed ≡ stage.passed + 1
-  one-passed = ap (λ (s : Stage). s.passed) done ∙ handled-passed bytes (counted stage)
+  one-passed = ap (λ (s : Stage). s.passed) done ∙ handled-passed front (counted stage)

@@ -1,13 +1,13 @@
 -- Operations 1 to 9, 15 and 17: what a call of the book or a load answers, and what it leaves of the lent words. Assumes nothing.
 use Rattle.std.specs.Prelude.{ℕ, cond, ◌||◌, List, [], ◌∷◌, eqb, take}
-use Rattle.book_shares.specs.declared.intensities.Intensity.{Intensity}
+use Rattle.book_shares.specs.Intensities.{IntensityReply}
 use Rattle.book_shares.specs.Intensities.{intensity_reply}
 use Rattle.book.specs.declared.arguments.EnrolArguments.{EnrolArguments}
 use Rattle.book.specs.declared.arguments.LineArguments.{LineArguments}
 use Rattle.book.specs.declared.arguments.PostArguments.{PostArguments}
 use Rattle.book.specs.declared.arguments.QuoteArguments.{QuoteArguments}
-use Rattle.book.specs.declared.replies.Reply.{Reply}
-use Rattle.book.specs.declared.replies.Statement.{Statement}
+use Rattle.book.specs.Replies.{Reply}
+use Rattle.book.specs.Statements.{StatementReply}
 use Rattle.book.specs.Calls.{fresh_refusal, fresh_book}
 use Rattle.book.specs.Statements.{statement_reply}
 use Rattle.conservation.specs.declared.Call.{Call}
@@ -16,11 +16,10 @@ use Rattle.conservation.specs.Runs.{step}
 use Rattle.book_file.specs.declared.answers.Numbers.{Numbers}
 use Rattle.book_file.specs.Loading.{load_numbers, load_book}
 use Rattle.workbook.specs.declared.lines.Line.{Line as WorkbookLine}
-use Rattle.replay.specs.declared.output.Answer.{Answer}
 use Rattle.replay.specs.declared.records.Words.{Words}
 
 -- the arguments of a post, an enrolment, a quote and a line, in the order of documents 01 and 02
-abbrev post_of : Words → PostArguments
+abbrev pub post_of : Words → PostArguments
 post_of words =
     record {
       category = words.first;
@@ -30,7 +29,7 @@ post_of words =
       provision_factor = words.fifth;
     }
 
-abbrev enrol_of : Words → EnrolArguments
+abbrev pub enrol_of : Words → EnrolArguments
 enrol_of words =
     record {
       category = words.first;
@@ -41,7 +40,7 @@ enrol_of words =
       kg_per_head = words.sixth;
     }
 
-abbrev quote_of : Words → QuoteArguments
+abbrev pub quote_of : Words → QuoteArguments
 quote_of words =
     record {
       chain = words.first;
@@ -74,10 +73,10 @@ abbrev pub reply_numbers : ℕ → Reply → List ℕ
 reply_numbers operation reply = take (reply_count operation) (reply.refusal ∷ reply.number ∷ [])
 
 -- those of a statement, of an intensity and of a load
-abbrev pub statement_reply_numbers : Statement → List ℕ
+abbrev pub statement_reply_numbers : StatementReply → List ℕ
 statement_reply_numbers s = s.refusal ∷ s.elements ∷ s.waiting ∷ s.operation ∷ s.provision ∷ s.total ∷ []
 
-abbrev pub intensity_numbers : Intensity → List ℕ
+abbrev pub intensity_numbers : IntensityReply → List ℕ
 intensity_numbers i = i.refusal ∷ i.operation ∷ i.provision ∷ []
 
 abbrev pub file_numbers : Numbers → List ℕ
@@ -90,9 +89,6 @@ pub record Answered : Type 0 where
 
 abbrev pub answering : List ℕ → List ℕ → Answered
 answering numbers book = record { numbers = numbers; book = book }
-
-abbrev pub answered_of : Answer → List ℕ → Answered
-answered_of answer book = answering (take answer.count answer.numbers) book
 
 -- on the lent words, 15 with the bytes of its file and 17 with the line of its cells; a statement and an intensity leave the words as
 -- they are

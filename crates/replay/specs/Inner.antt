@@ -1,2 +1,2 @@
 -- What inner functions require and promise.
-pub mod Steps
+pub mod Operations

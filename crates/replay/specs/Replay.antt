@@ -9,7 +9,7 @@ use Rattle.replay.specs.declared.state.State.{State}
 use Rattle.replay.specs.Answers.{Answered, answered}
 use Rattle.replay.specs.Cells.{no_cells, cells_after}
 use Rattle.replay.specs.Text.{numbers_line}
-use Rattle.replay.specs.Waiting.{waiting_in, put}
+use Rattle.replay.specs.Waiting.{put}
 
 -- the words of the book's array
 abbrev pub array_length : ℕ
@@ -29,15 +29,15 @@ pub record Machine : Type 0 where
   pub waiting : List ℕ
   pub good : Bool
 
--- the machine that the memory, the output buffer and the program's state hold
-abbrev pub machine_of : List ℕ → List ℕ → State → Machine
-machine_of memory buffer state =
+-- the machine that the program's state holds
+abbrev pub machine_of : State → Machine
+machine_of state =
     record {
-      memory = memory;
+      memory = state.memory;
       count = state.count;
       cells = state.cells;
       lent = state.lent;
-      waiting = waiting_in buffer state.output;
+      waiting = state.output.waiting.items;
       good = state.good;
     }
 

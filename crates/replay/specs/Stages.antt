@@ -23,12 +23,12 @@ pub record Stage : Type 0 where
   pub missing : ℕ
   pub passed : ℕ
 
--- the stage that the three arrays and the program's state hold
-abbrev pub stage_of : List ℕ → List ℕ → List ℕ → State → Stage
-stage_of memory file buffer state =
+-- the stage that the program's state holds
+abbrev pub stage_of : State → Stage
+stage_of state =
     record {
-      machine = machine_of memory buffer state;
-      file = take state.come file;
+      machine = machine_of state;
+      file = state.file.items;
       missing = state.missing;
       passed = state.passed;
     }

@@ -1,22 +1,29 @@
 // Operation 16: the cells of a line, from the bits of their doubles.
-ghost use Rattle.std.specs.Prelude.{◌≡◌, List, ℕ};
+ghost use Rattle.std.specs.Prelude.{◌≡◌, ◌≤◌, ◌<◌, MatchOption};
 ghost use Rattle.std.specs.Float.{binary64};
 ghost use Rattle.std.specs.Float.Ieee.{of_bits};
 ghost use Rattle.replay.specs.Cells.{cell_of, no_cells, with_cell};
-ghost use Rattle.replay.specs.Replay.{cell_listed, with_cells};
+ghost use Rattle.replay.specs.Inner.Operations.{cell_put};
 ghost use Rattle.replay.specs.Stages.{stage_of, on_machine};
 
 use crate::records::Words;
-use crate::state;
 use crate::state::State;
 use workbook::{Cell, Line};
 
-// The cells that are listed: so many of a line, from the left. Those behind them are blank.
+// The cells that are listed: so many of a line, from the left. Those behind them are blank. (The definitions of `specs/Cells.antt`
+// speak of a count and a line, and a call takes the line: a vector of cells would be turned into one.)
 #[derive(Clone, Copy)]
 pub struct Cells {
     pub count: u64,
     pub line: Line,
 }
+
+// A line without cells.
+const BLANK: Line = Line {
+    quantity: Cell::Blank,
+    operation_factor: Cell::Blank,
+    provision_factor: Cell::Blank,
+};
 
 // No cell is listed.
 pub fn none() -> Cells
@@ -24,82 +31,65 @@ pub fn none() -> Cells
 {
     Cells {
         count: 0,
-        line: Line {
-            quantity: Cell::Blank,
-            operation_factor: Cell::Blank,
-            provision_factor: Cell::Blank,
-        },
+        line: BLANK,
     }
 }
 
-// Lists a cell, where its form is one and there is room for it.
-pub fn list(words: Words, state: State) -> State
-    ensures by_index { (memory file buffer : List ℕ) → stage_of memory file buffer result
-        ≡ on_machine (cell_listed words) (stage_of memory file buffer state) }
-    ensures output_value { result.output ≡ state.output }
-{
-    let cells = state.cells;
-    if (words.first > 2) | (cells.count > 2) {
-        return state::bad(state);
-    }
-    with_cells(with_cell(cells, cell_of(words)), state)
-}
-
-// The state with these cells listed.
-pub fn with_cells(cells: Cells, mut state: State) -> State
-    ensures by_index { (memory file buffer : List ℕ) → stage_of memory file buffer result
-        ≡ on_machine (with_cells cells) (stage_of memory file buffer state) }
-    ensures output_value { result.output ≡ state.output }
-{
-    state.cells = cells;
-    state
-}
-
-// The listed cells and one more.
-fn with_cell(cells: Cells, cell: Cell) -> Cells
-    ensures { result ≡ with_cell cell cells }
-{
-    let line = cells.line;
-    let quantity = line.quantity;
-    let operation_factor = line.operation_factor;
-    let count = cells.count;
-    match count {
-        0 => Cells {
-            count: 1,
-            line: Line {
-                quantity: cell,
-                operation_factor: Cell::Blank,
-                provision_factor: Cell::Blank,
-            },
-        },
-        1 => Cells {
-            count: 2,
-            line: Line {
-                quantity,
-                operation_factor: cell,
-                provision_factor: Cell::Blank,
-            },
-        },
-        _ => Cells {
-            count: 3,
-            line: Line {
-                quantity,
-                operation_factor,
-                provision_factor: cell,
-            },
-        },
+impl Cells {
+    // The listed cells and one more.
+    fn with_cell(self, cell: Cell) -> Cells
+        ensures { result ≡ with_cell cell self }
+    {
+        let (count, line) = match self.count {
+            0 => (
+                1,
+                Line {
+                    quantity: cell,
+                    ..BLANK
+                },
+            ),
+            1 => (
+                2,
+                Line {
+                    quantity: self.line.quantity,
+                    operation_factor: cell,
+                    ..BLANK
+                },
+            ),
+            _ => (
+                3,
+                Line {
+                    provision_factor: cell,
+                    ..self.line
+                },
+            ),
+        };
+        Cells { count, line }
     }
 }
 
-// The cell of a form, 0 blank, 1 a number, else a span, and of the bits of its doubles.
-fn cell_of(words: Words) -> Cell
-    ensures { result ≡ cell_of words }
+impl State {
+    // Lists a cell, where there is room for it.
+    pub fn list_cell(&mut self, cell: Cell)
+        ensures { stage_of self.new ≡ on_machine (cell_put cell) (stage_of self.old) }
+    {
+        if self.cells.count > 2 {
+            self.set_bad();
+        } else {
+            self.cells = self.cells.with_cell(cell);
+        }
+    }
+}
+
+// The cell of a form, 0 blank, 1 a number, 2 a span, and of the bits of its doubles.
+pub fn cell_of(words: Words) -> Option<Cell>
+    ensures { MatchOption result (2 < words.first) (λ cell. words.first ≤ 2 × (cell ≡ cell_of words)) }
 {
-    let form = words.first;
-    match form {
-        0 => Cell::Blank,
-        1 => Cell::Number(double(words.second)),
-        _ => Cell::Span(double(words.second), double(words.third)),
+    match words.first {
+        0 => Some(Cell::Blank),
+        1 => Some(Cell::Number(double(words.second))),
+        2 => Some(Cell::Span(double(words.second), double(words.third))),
+        _ => None,
     }
 }
 

@@ -1,27 +1,62 @@
 // Operation 15: a file, whose bytes come in the records after it.
-ghost use Rattle.std.specs.Prelude.{◌≡◌, List, ℕ, ◌≤◌, length};
-ghost use Rattle.replay.specs.Stages.{record_bytes, file_room, stage_of, taken};
+ghost use Rattle.std.specs.Prelude.{◌≡◌, ◌≤◌, ◌++◌, length, take, drop};
+ghost use Rattle.book_file.specs.Loading.{load_numbers, load_book};
+ghost use Rattle.replay.specs.Stages.{record_bytes, stage_of, taken};
+ghost use Rattle.replay.specs.Inner.Operations.{load_due, load_begun};
 
 use crate::state::State;
-use crate::{records, state};
+use crate::{memory, records};
+use arrayvec::ArrayVec;
+use book_file::Numbers;
 
 // Room for the bytes of a file: one record more than the longest that is loaded.
 pub const ROOM: usize = 16_448;
 
-pub type File = [u8; ROOM];
+impl State {
+    // A file of this length is to come, where there is room. One without bytes is loaded at once.
+    pub fn begin_load(&mut self, length: u64)
+        ensures { stage_of self.new ≡ load_begun length (stage_of self.old) }
+    {
+        let length = length as usize;
+        if length > ROOM {
+            self.set_bad();
+            return;
+        }
+        self.file.clear();
+        self.missing = length;
+        self.load();
+    }
 
-// A record of bytes of the file that is to come. The last record may have more than are missing.
-pub fn take(bytes: &[u8], file: &mut [u8], mut state: State) -> State
-    requires record_bytes_in_bounds { record_bytes ≤ length bytes.now }
-    requires file_len { length file.old ≡ file_room }
-    ensures { (memory buffer : List ℕ) → stage_of memory file.new buffer result
-        ≡ taken bytes.now (stage_of memory file.old buffer state) }
+    // A record of bytes of the file that is to come. The last record may have more than are missing.
+    pub fn take(&mut self, bytes: &[u8])
+        requires { record_bytes ≤ length bytes.now }
+        ensures { stage_of self.new ≡ taken bytes.now (stage_of self.old) }
+    {
+        let count = self.missing.min(records::SIZE);
+        self.file.truncate(ROOM - count);
+        let _ = self.file.try_extend_from_slice(&bytes[..count]);
+        self.missing -= count;
+    }
+
+    // Loads the file into the lent words, once no byte of it is missing, and prints the answer.
+    pub fn load(&mut self)
+        ensures { stage_of self.new ≡ load_due (stage_of self.old) }
+    {
+        if self.missing > 0 {
+            return;
+        }
+        let lent = self.lent.min(memory::LENGTH);
+        let n = load_into(&mut self.memory, lent, &self.file);
+        self.output.print_line(n.refusal, &[n.table, n.record]);
+    }
+}
+
+// Loads the file into the first `lent` of these words. (A part of one field is not lent while another field is, so the part is taken
+// here.)
+fn load_into(words: &mut [u64], lent: usize, file: &ArrayVec<u8, ROOM>) -> Numbers
+    requires { lent ≤ length words.old }
+    ensures value { result ≡ load_numbers (take lent words.old) file.now.items }
+    ensures words_after { words.new ≡ load_book (take lent words.old) file.now.items ++ drop lent words.old }
 {
-    let missing = state.missing;
-    let count = state::least(missing, records::SIZE);
-    let come = state::least(state.come, ROOM - count);
-    file[come..come + count].copy_from_slice(&bytes[..count]);
-    state.come = come + count;
-    state.missing = missing - count;
-    state
+    book_file::numbers_of(book_file::load(&mut words[..lent], file.as_slice()))
 }

@@ -1,76 +1,150 @@
-// What a record does: it is taken in, and then the operation that is due is performed.
-ghost use Rattle.std.specs.Prelude.{◌≡◌, List, ℕ, length};
-ghost use Rattle.replay.specs.Stages.{file_room, stage_of, due, handled};
+// The operations: what the words of a record ask for, and what is done.
+ghost use Rattle.std.specs.Prelude.{◌≡◌};
+ghost use Rattle.replay.specs.Answers.{post_of, enrol_of, quote_of};
+ghost use Rattle.replay.specs.Stages.{stage_of, handled};
+ghost use Rattle.replay.specs.Inner.Operations.{AsksFor, operation_done};
 
-use crate::files::File;
-use crate::memory::Memory;
-use crate::output::Buffer;
 use crate::records::Words;
 use crate::state::State;
-use crate::{calls, cells, files, memory, previews, records, state};
+use crate::{cells, records};
+use book::{EnrolArguments, PostArguments, QuoteArguments};
+use conservation::Call;
+use workbook::Cell;
 
-// What a record leaves to do: its operation, once no byte of its file is missing. Operation 0 is bad.
+// An operation, with the numbers that it takes.
 #[derive(Clone, Copy)]
-pub struct Received {
-    pub operation: u64,
-    pub words: Words,
-    pub state: State,
+pub enum Operation {
+    // 1.
+    Fresh,
+    // 2 to 7.
+    Make(Call),
+    // 8, of a chain.
+    Statement(u64),
+    // 9, of a category and a code.
+    Intensity(u64, u64),
+    // 10, of a pool and a number of shares.
+    Divide(u64, u64),
+    // 11.
+    Weight(u64),
+    // 12, of an index and a word.
+    Poke(u64, u64),
+    // 13.
+    Lend(u64),
+    // 14, of a start and a count.
+    Dump(u64, u64),
+    // 15, of a length.
+    Load(u64),
+    // 16.
+    List(Cell),
+    // 17, of a category and a group.
+    Line(u64, u64),
+    // 18, of a category and a number of words.
+    Preview(u64, u64),
 }
 
-// Takes in the record at the start of the bytes. One that is cut short is bad.
-pub fn receive(bytes: &[u8], file: &mut [u8], mut state: State) -> Received
-    requires { length file.old ≡ file_room }
-    ensures { (memory buffer : List ℕ) → due result.operation result.words (stage_of memory file.new buffer result.state)
-        ≡ handled bytes.now (stage_of memory file.old buffer state) }
+// The operation that the words of a record ask for, where there is one.
+fn operation_of(words: Words) -> Option<Operation>
+    ensures { AsksFor words result }
 {
-    let words = records::read(bytes);
-    let mut operation = words.operation;
-    if bytes.len() < records::SIZE {
-        operation = 0;
-        state = state::bad(state);
-    } else if state.missing > 0 {
-        operation = 15;
-        state = files::take(bytes, file, state);
-    } else if operation == 15 {
-        let length = words.first as usize;
-        if length > files::ROOM {
-            operation = 0;
+    Some(match words.operation {
+        1 => Operation::Fresh,
+        2 => Operation::Make(Call::Open(words.first)),
+        3 => Operation::Make(Call::Post(post_of(words))),
+        4 => Operation::Make(Call::Strike(words.first)),
+        5 => Operation::Make(Call::Enrol(enrol_of(words))),
+        6 => Operation::Make(Call::Quote(quote_of(words))),
+        7 => Operation::Make(Call::Close(words.first)),
+        8 => Operation::Statement(words.first),
+        9 => Operation::Intensity(words.first, words.second),
+        10 => Operation::Divide(words.first, words.second),
+        11 => Operation::Weight(words.first),
+        12 => Operation::Poke(words.first, words.second),
+        13 => Operation::Lend(words.first),
+        14 => Operation::Dump(words.first, words.second),
+        15 => Operation::Load(words.first),
+        16 => Operation::List(cells::cell_of(words)?),
+        17 => Operation::Line(words.first, words.second),
+        18 => Operation::Preview(words.first, words.second),
+        _ => return None,
+    })
+}
+
+// The arguments of a post, an enrolment and a quote.
+fn post_of(words: Words) -> PostArguments
+    ensures { result ≡ post_of words }
+{
+    PostArguments {
+        category: words.first,
+        group: words.second,
+        quantity: words.third,
+        operation_factor: words.fourth,
+        provision_factor: words.fifth,
+    }
+}
+
+fn enrol_of(words: Words) -> EnrolArguments
+    ensures { result ≡ enrol_of words }
+{
+    EnrolArguments {
+        category: words.first,
+        chain: words.second,
+        code: words.third,
+        amount: words.fourth,
+        distance: words.fifth,
+        kg_per_head: words.sixth,
+    }
+}
+
+fn quote_of(words: Words) -> QuoteArguments
+    ensures { result ≡ quote_of words }
+{
+    QuoteArguments {
+        chain: words.first,
+        adjust: words.second,
+        mass: words.third,
+        distance: words.fourth,
+        operation_intensity: words.fifth,
+        provision_intensity: words.sixth,
+    }
+}
+
+impl State {
+    // Does what the record at the start of the bytes asks for. One that is cut short is bad.
+    pub fn handle(&mut self, bytes: &[u8])
+        ensures { stage_of self.new ≡ handled bytes.now (stage_of self.old) }
+    {
+        if bytes.len() < records::SIZE {
+            self.set_bad();
+        } else if self.missing > 0 {
+            self.take(bytes);
+            self.load();
         } else {
-            state.come = 0;
-            state.missing = length;
+            match operation_of(records::read(bytes)) {
+                Some(operation) => self.perform(operation),
+                None => self.set_bad(),
+            }
         }
     }
-    Received {
-        operation,
-        words,
-        state,
-    }
-}
 
-// Performs the operation that is due.
-pub fn perform(
-    operation: u64,
-    words: Words,
-    memory: &mut Memory,
-    file: &File,
-    buffer: &mut Buffer,
-    state: State,
-) -> State
-    ensures { stage_of memory.new file.now buffer.new result
-        ≡ due operation words (stage_of memory.old file.now buffer.old state) }
-{
-    if state.missing > 0 {
-        return state;
-    }
-    if (1 <= operation) & (operation <= 9) | (operation == 15) {
-        return calls::call(operation, words, memory, file, buffer, state);
-    }
-    match operation {
-        10 => memory::divide(words.first, words.second, memory, buffer, state),
-        14 => memory::dump(words.first, words.second, memory, buffer, state),
-        16 => cells::list(words, state),
-        17 => calls::line(words, memory, file, buffer, state),
-        18 => previews::preview(words.first, words.second, memory, buffer, state),
-        _ => memory::change(operation, words, memory, state),
+    // Performs an operation.
+    #[tactic(auto, unfolding(crate::specs::Inner::Operations::operation_done))]
+    fn perform(&mut self, operation: Operation)
+        ensures { stage_of self.new ≡ operation_done operation (stage_of self.old) }
+    {
+        match operation {
+            Operation::Fresh => self.fresh(),
+            Operation::Make(call) => self.make(call),
+            Operation::Statement(chain) => self.statement(chain),
+            Operation::Intensity(category, code) => self.intensity(category, code),
+            Operation::Divide(pool, shares) => self.divide(pool, shares),
+            Operation::Weight(weight) => self.list_weight(weight),
+            Operation::Poke(index, word) => self.poke(index, word),
+            Operation::Lend(count) => self.lend(count),
+            Operation::Dump(start, count) => self.dump(start, count),
+            Operation::Load(length) => self.begin_load(length),
+            Operation::List(cell) => self.list_cell(cell),
+            Operation::Line(category, group) => self.line(category, group),
+            Operation::Preview(category, size) => self.preview(category, size),
+        }
     }
 }

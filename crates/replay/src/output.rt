@@ -1,137 +1,93 @@
-// The output buffer: bytes that wait to be written to standard output.
-ghost use Rattle.std.specs.Prelude.{◌≡◌, List, ℕ, ◌+◌, ◌<◌, ◌^◌, length};
-ghost use Rattle.report.specs.Text.{decimal};
+// The output: bytes that wait to be written to standard output.
+ghost use Rattle.std.specs.Prelude.{◌≡◌, true, false, []};
+ghost use Rattle.report.specs.Text.{decimal, line};
 ghost use Rattle.replay.specs.Text.{numbers_line};
-ghost use Rattle.replay.specs.Waiting.{waiting_in, put_byte, put};
-ghost use Rattle.replay.specs.Inner.Steps.{Flushed};
-ghost use Rattle.replay.specs.Replay.{machine_of, with_text};
-ghost use Rattle.replay.specs.Stages.{stage_of, on_machine, ended};
+ghost use Rattle.replay.specs.Waiting.{put_byte, put};
 
-use crate::state;
-use crate::state::State;
-use std::io::Stdout;
+use arrayvec::ArrayVec;
+use std::io::{Stdout, Write};
 
-pub type Buffer = [u8; 65_536];
-
-#[derive(Clone, Copy)]
+#[derive(Drop)]
 pub struct Output {
-    // The waiting bytes are those before this position.
-    pub at: usize,
+    // The bytes that wait.
+    pub waiting: ArrayVec<u8, 65_536>,
     // False after a write that failed: nothing is written from then on.
     pub ok: bool,
     // Where the waiting bytes go.
     pub stdout: Stdout,
 }
 
-// The numbers that an operation answers: the first `count` of these.
-#[derive(Clone, Copy)]
-pub struct Answer {
-    pub numbers: [u64; 6],
-    pub count: usize,
-}
-
-// Writes the waiting bytes.
-pub fn flush(buffer: &Buffer, output: Output) -> Output
-    ensures { Flushed output result }
-{
-    write_waiting(buffer, output)
-}
-
-// The same on the buffer as a slice.
-fn write_waiting(buffer: &[u8], output: Output) -> Output
-    ensures { Flushed output result }
-{
-    if !output.ok {
-        return Output {
-            at: 0,
-            ok: false,
-            stdout: output.stdout,
-        };
-    }
-    let at = state::least(output.at, buffer.len());
-    let ok = output.stdout.write_all(&buffer[..at]).is_ok();
-    Output {
-        at: 0,
-        ok,
-        stdout: output.stdout,
-    }
-}
-
-// Puts a byte. Where the buffer is full, what waits is written first.
-fn put_byte(byte: u8, buffer: &mut [u8], output: Output) -> Output
-    requires { length buffer.old ≡ 65536 }
-    ensures { waiting_in buffer.new result ≡ put_byte (waiting_in buffer.old output) byte }
-{
-    let at = output.at;
-    if at < buffer.len() {
-        buffer[at] = byte;
-        return Output {
-            at: at + 1,
-            ok: output.ok,
-            stdout: output.stdout,
-        };
-    }
-    let flushed = write_waiting(buffer, output);
-    buffer[0] = byte;
-    Output {
-        at: 1,
-        ok: flushed.ok,
-        stdout: flushed.stdout,
-    }
-}
-
-// Puts bytes.
-fn put_bytes(text: &[u8], buffer: &mut Buffer, output: Output) -> Output
-    ensures { waiting_in buffer.new result ≡ put (waiting_in buffer.old output) text.now }
-{
-    let mut current = output;
-    let mut i = 0;
-    while i < text.len() {
-        current = put_byte(text[i], buffer, current);
-        i += 1;
-    }
-    current
-}
-
-// Puts a number in decimal.
-fn put_number(number: u64, buffer: &mut Buffer, output: Output) -> Output
-    ensures { waiting_in buffer.new result ≡ put (waiting_in buffer.old output) (decimal number) }
-{
-    let mut digits = [0u8; 20];
-    let count = report::put_number(number, &mut digits, 0);
-    put_bytes(&digits[..count], buffer, output)
-}
-
-// Prints an answer: a line of its numbers, with single spaces between.
-pub fn print(numbers: &[u64], buffer: &mut Buffer, mut state: State) -> State
-    ensures { (memory file : List ℕ) → stage_of memory file buffer.new result
-        ≡ on_machine (with_text (numbers_line numbers.now)) (stage_of memory file buffer.old state) }
-{
-    let mut current = state.output;
-    let mut i = 0;
-    while i < numbers.len() {
-        if i > 0 {
-            current = put_byte(b' ', buffer, current);
+impl Output {
+    // No byte waits, and no write has failed.
+    pub fn new(stdout: Stdout) -> Output
+        ensures waiting_value { result.waiting.items ≡ [] }
+        ensures ok_value { result.ok ≡ true }
+    {
+        Output {
+            waiting: ArrayVec::new(),
+            ok: true,
+            stdout,
         }
-        current = put_number(numbers[i], buffer, current);
-        i += 1;
     }
-    state.output = put_byte(b'\n', buffer, current);
-    state
-}
 
-// The input ends: a bad record has its line, and where a file is still to come, so has the record that did not come, which is one
-// more than were handled.
-pub fn end(buffer: &mut Buffer, mut state: State) -> State
-    requires { state.passed + 1 < 2 ^ 64 }
-    ensures { (memory file : List ℕ) → machine_of memory buffer.new result
-        ≡ ended (stage_of memory file buffer.old state) }
-{
-    if state.good & (state.missing == 0) {
-        return state;
+    // Writes the waiting bytes. A write that failed stays so.
+    pub fn flush(&mut self)
+        ensures waiting_after { self.new.waiting.items ≡ [] }
+        ensures ok_after { self.old.ok ≡ false → self.new.ok ≡ false }
+    {
+        if self.ok {
+            self.ok = self.stdout.write_all(self.waiting.as_slice()).is_ok();
+        }
+        self.waiting.clear();
     }
-    let output = state.output;
-    state.output = put_bytes(b"bad record ", buffer, output);
-    let number = state.passed + state.good as u64;
-    print(&[number], buffer, state)
+
+    // Puts a byte. Where the bytes that wait fill their room, they are written first.
+    fn put_byte(&mut self, byte: u8)
+        ensures { self.new.waiting.items ≡ put_byte self.old.waiting.items byte }
+    {
+        if self.waiting.is_full() {
+            self.flush();
+        }
+        self.waiting.push(byte);
+    }
+
+    // Puts bytes.
+    pub fn put_bytes(&mut self, text: &[u8])
+        ensures { self.new.waiting.items ≡ put self.old.waiting.items text.now }
+    {
+        for byte in text {
+            self.put_byte(*byte);
+        }
+    }
+
+    // Puts a number in decimal.
+    fn put_number(&mut self, number: u64)
+        ensures { self.new.waiting.items ≡ put self.old.waiting.items (decimal number) }
+    {
+        let mut digits = [0u8; 20];
+        let count = report::put_number(number, &mut digits, 0);
+        self.put_bytes(&digits[..count]);
+    }
+
+    // Prints a line of numbers, with single spaces between: the first, and those behind it.
+    pub fn print_line(&mut self, first: u64, rest: &[u64])
+        ensures { self.new.waiting.items ≡ put self.old.waiting.items (line first rest.now) }
+    {
+        self.put_number(first);
+        for number in rest {
+            self.put_byte(b' ');
+            self.put_number(*number);
+        }
+        self.put_byte(b'\n');
+    }
+
+    // Prints a line of numbers of which there may be none.
+    pub fn print(&mut self, numbers: &[u64])
+        ensures { self.new.waiting.items ≡ put self.old.waiting.items (numbers_line numbers.now) }
+    {
+        match numbers.split_first() {
+            Some((first, rest)) => self.print_line(*first, rest),
+            None => self.put_byte(b'\n'),
+        }
+    }
 }

@@ -1,67 +1,77 @@
-// What is kept from record to record, beside the memory, the bytes of a file and those that wait to be written.
-ghost use Rattle.std.specs.Prelude.{◌≡◌, true, List, ℕ, ◌+◌, min, replicate};
-ghost use Rattle.replay.specs.Replay.{array_length, room, bad};
-ghost use Rattle.replay.specs.Stages.{stage_of, first_stage, on_machine};
+// What is kept from record to record.
+ghost use Rattle.std.specs.Prelude.{◌≡◌, true, ◌&&◌, ◌+◌, ◌<◌, ◌^◌};
+ghost use Rattle.replay.specs.Replay.{machine_of, bad};
+ghost use Rattle.replay.specs.Stages.{stage_of, first_stage, on_machine, ended};
 
 use crate::cells::Cells;
 use crate::output::Output;
-use crate::{cells, memory};
+use crate::{cells, files, memory};
+use arrayvec::ArrayVec;
 use std::io::Stdout;
 
-#[derive(Clone, Copy)]
+#[derive(Drop)]
 pub struct State {
+    // The words of the book's array, and behind them the listed weights, where the definitions of `specs/Replay.antt` have them.
+    pub memory: [u64; memory::LENGTH + memory::ROOM],
     // How many weights are listed.
     pub count: usize,
     // The cells that are listed.
     pub cells: Cells,
     // How many words of the array are lent to the book's calls.
     pub lent: usize,
-    // How many bytes of a file have come, and how many are to come.
-    pub come: usize,
+    // The bytes of a file that have come, and how many are to come.
+    pub file: ArrayVec<u8, { files::ROOM }>,
     pub missing: usize,
     // How many records have been handled.
     pub passed: u64,
     // False after a bad record.
     pub good: bool,
-    // Where the waiting bytes end.
     pub output: Output,
 }
 
-// Before the first record: no weight and no cell is listed, the whole array is lent, no file is on its way and no byte waits.
-pub fn first(stdout: Stdout) -> State
-    ensures by_index { (file buffer : List ℕ) → stage_of (replicate (array_length + room) 0) file buffer result ≡ first_stage }
-    ensures ok_value { result.output.ok ≡ true }
-{
-    let output = Output {
-        at: 0,
-        ok: true,
-        stdout,
-    };
-    let cells = cells::none();
-    State {
-        count: 0,
-        cells,
-        lent: memory::LENGTH,
-        come: 0,
-        missing: 0,
-        passed: 0,
-        good: true,
-        output,
+impl State {
+    // Before the first record: no weight and no cell is listed, the whole array is lent, no file is on its way and no byte waits.
+    pub fn new(stdout: Stdout) -> State
+        ensures value { stage_of result ≡ first_stage }
+        ensures ok_value { result.output.ok ≡ true }
+    {
+        State {
+            memory: [0; memory::LENGTH + memory::ROOM],
+            count: 0,
+            cells: cells::none(),
+            lent: memory::LENGTH,
+            file: ArrayVec::new(),
+            missing: 0,
+            passed: 0,
+            good: true,
+            output: Output::new(stdout),
+        }
     }
-}
 
-// The record is bad.
-pub fn bad(mut state: State) -> State
-    ensures by_index { (memory file buffer : List ℕ) → stage_of memory file buffer result ≡ on_machine bad (stage_of memory file buffer state) }
-    ensures output_value { result.output ≡ state.output }
-{
-    state.good = false;
-    state
-}
+    // The record is bad.
+    pub fn set_bad(&mut self)
+        ensures { stage_of self.new ≡ on_machine bad (stage_of self.old) }
+    {
+        self.good = false;
+    }
 
-// A count that the state keeps, within an array of this length.
-pub fn least(count: usize, length: usize) -> usize
-    ensures { result ≡ min count length }
-{
-    if count < length { count } else { length }
+    // No record was bad and no write failed.
+    pub fn goes_on(&self) -> bool
+        ensures { result ≡ self.now.good && self.now.output.ok }
+    {
+        self.good && self.output.ok
+    }
+
+    // The input ends: a bad record has its line, and where a file is still to come, so has the record that did not come, which is
+    // one more than were handled.
+    pub fn end(&mut self)
+        requires { self.old.passed + 1 < 2 ^ 64 }
+        ensures { machine_of self.new ≡ ended (stage_of self.old) }
+    {
+        if self.good && self.missing == 0 {
+            return;
+        }
+        self.output.put_bytes(b"bad record ");
+        self.output.print(&[self.passed + self.good as u64]);
+    }
 }

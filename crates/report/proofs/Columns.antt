@@ -10,7 +10,7 @@ use Rattle.apportion.specs.Places.{sum_below, one_if}
 use Rattle.apportion.proofs.Sums.{sum-cong, sum-add}
 use Rattle.book.specs.ClassTotal.{over_elements, class_total}
 use Rattle.book.specs.Statements.{of_chain, waits, elements_over, waiting_over, shares_over, statement_of, zeros_beside}
-use Rattle.book.specs.declared.replies.Statement.{Statement}
+use Rattle.book.specs.Statements.{StatementReply}
 use Rattle.book.proofs.Laws.{statement-accepted, statement-unused}
 use Rattle.book_words.specs.Book.{elements, element_at}
 use Rattle.book_words.specs.Measures.{most_chains}
@@ -81,7 +81,7 @@ module _ (ws : List ℕ) (chain : ℕ) where
 
 module _ (ws : List ℕ) (fine : sound ws ≡ true) where
   -- a column of the statements of all chains, by what it adds of each element, is the sum over all elements
-  over-chains : (column : Statement → ℕ) (number : Element → ℕ) → ((chain : ℕ) → column (statement_of ws chain) ≡ sum_on ws chain number)
+  over-chains : (column : StatementReply → ℕ) (number : Element → ℕ) → ((chain : ℕ) → column (statement_of ws chain) ≡ sum_on ws chain number)
       → sum_below most_chains (λ j. column (statement_of ws (j + 1))) ≡ over_elements ws number
   over-chains column number is =
       sum-cong most_chains (λ j. column (statement_of ws (j + 1))) (λ j. sum_on ws (j + 1) number) (λ j h. is (j + 1))
@@ -99,7 +99,7 @@ module _ (ws : List ℕ) (fine : sound ws ≡ true) where
       sym (statement-accepted ws (j + 1) fine known) ∙ statement-unused ws (j + 1) fine known (unused-none ws (j + 1) unused)
 
   -- so a column over the used chains is that over all chains, and the sum over all elements
-  column-total : (column : Statement → ℕ) (number : Element → ℕ) → column (zeros_beside 0) ≡ 0
+  column-total : (column : StatementReply → ℕ) (number : Element → ℕ) → column (zeros_beside 0) ≡ 0
       → ((chain : ℕ) → column (statement_of ws chain) ≡ sum_on ws chain number) → over_elements ws number ≡ column_sum ws column
   column-total column number none is =
       sym

@@ -9,7 +9,7 @@ use lib.Dec.{ltb}
 use lib.ListN.{take}
 use Rattle.book.specs.ClassTotal.{class_total}
 use Rattle.book.specs.Statements.{statement_of}
-use Rattle.book.specs.declared.replies.Statement.{Statement}
+use Rattle.book.specs.Statements.{StatementReply}
 use Rattle.book_words.specs.Measures.{most_chains}
 use Rattle.report.specs.Sheet.{heading, is_used, statement_numbers, chain_line, lines_to, chain_lines, all_word, all_line, sheet_text}
 use Rattle.report.specs.Text.{digit, decimal_within, decimal, spaced, line_end, line, word_line, newlines, last_line_of}
@@ -52,7 +52,7 @@ end-one (n ∷ numbers) =
     ap newlines (append_assoc (32 ∷ decimal n) (spaced numbers) (10 ∷ []))
     ∙ omega (arith, newlines-append (decimal n) (line_end numbers), decimal-plain 20 n, end-one numbers)
 
-all_one : (total : Statement) → newlines (all_line total) ≡ 1
+all_one : (total : StatementReply) → newlines (all_line total) ≡ 1
 unfolding all_line all_word word_line
 all_one total = omega (arith, end-one (statement_numbers total))
 

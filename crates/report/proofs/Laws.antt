@@ -1,6 +1,6 @@
 -- The laws of a sheet, for the crates above, and the law of its table: after the first k elements it holds for every chain what the
 -- walk of the chain's statement holds (`table-holds`). Assumes nothing.
-use Prim.Native.Nat.{ℕ, zero, suc, ◌+◌, ◌≤◌}
+use Prim.Native.Nat.{ℕ, ◌+◌, ◌≤◌}
 use native.Mathlib.Nat.{zero-add}
 use native.Mathlib.Omega.{arith}
 use mathlib.Core.Bool.{Bool, true, false, cond}
@@ -12,16 +12,16 @@ use lib.ListN.{length, drop}
 use lib.Seq.{sets, sets-eq}
 use Rattle.apportion.specs.Grounds.{accepted}
 use Rattle.book_words.specs.Soundness.{sound}
-use Rattle.report.specs.declared.printing.Printed.{Printed}
-use Rattle.report.specs.declared.printing.Printed.TheVariants.{Written, TooSmall, Refused}
-use Rattle.report.specs.Printing.{printed_numbers, answer_for, numbers_for, buffer_with}
-use Rattle.report.specs.Sheet.{all_word, all_line, sheet_text, column_sums, sheet_refusal, sheet_answer, sheet_numbers, sheet_buffer}
+use Rattle.std.proofs.Common.{Ok, Err, not}
+use Rattle.apportion.specs.declared.refusing.Refusal.TheVariants.{Unfit}
+use Rattle.report.specs.declared.printing.Unprinted.TheVariants.{TooSmall, Refused}
+use Rattle.report.specs.Printing.{Printed, printed_numbers, answer_for, numbers_for, buffer_with}
+use Rattle.report.specs.Sheet.{all_word, all_line, sheet_text, column_sums, sheet_refusal, sheet_answer, sheet_numbers, sheet_buffer, sheet_room}
 use Rattle.report.specs.Text.{word_line, last_line_of}
 pub use Rattle.report.proofs.Columns.{class-total-of-lines}
 pub use Rattle.report.proofs.LastLine.{sheet-last-line}
 pub use Rattle.report.proofs.Lines.{sheet-fits, refused-fits}
-pub use Rattle.report.proofs.Stores.{Front, front_of}
-pub use Rattle.report.proofs.TableWalk.{table-holds}
+pub use Rattle.report.proofs.TableRows.{table-holds}
 
 -- what the answer for a text says: its number is 0
 answer-numbers : (text : List ℕ) (room : ℕ) (answer : Printed) → answer ≡ answer_for text room
@@ -29,13 +29,13 @@ answer-numbers : (text : List ℕ) (room : ℕ) (answer : Printed) → answer �
 unfolding answer_for numbers_for
 answer-numbers text room answer is = ap printed_numbers is ∙ go (leb (length text) room)
   where
-    go : (fits : Bool) → printed_numbers (cond fits (Written (length text)) (TooSmall (length text)))
+    go : (fits : Bool) → printed_numbers (cond fits (Ok (length text)) (Err (TooSmall (length text))))
         ≡ record { refusal = 0; written = fits; length = length text }
     go true = refl
     go false = refl
 
 module _ (ws : List ℕ) where
-  -- the sheet of a sound book is printed, and that of another refused
+  -- the sheet of a sound book is printed
   pub sheet-answered : (room : ℕ) → sound ws ≡ true → sheet_answer ws room ≡ answer_for (sheet_text ws) room
   unfolding sheet_answer sheet_refusal
   sheet-answered room fine = rw fine
@@ -44,22 +44,15 @@ module _ (ws : List ℕ) where
   unfolding sheet_buffer sheet_refusal
   sheet-printed buffer fine = rw fine
 
-  pub sheet-refused : (room : ℕ) → sound ws ≡ false → sheet_answer ws room ≡ Refused 1
-  unfolding sheet_answer sheet_refusal
-  sheet-refused room unsound = rw unsound
-
-  pub sheet-unprinted : (buffer : List ℕ) → sound ws ≡ false → sheet_buffer ws buffer ≡ buffer
-  unfolding sheet_buffer sheet_refusal
-  sheet-unprinted buffer unsound = rw unsound
-
   -- what the answer says: document 01's number is that of the first ground
   pub sheet-numbers : (room : ℕ) (answer : Printed) → answer ≡ sheet_answer ws room → printed_numbers answer ≡ sheet_numbers ws room
-  unfolding sheet_answer sheet_numbers numbers_for
-  sheet-numbers room answer is = ap printed_numbers is ∙ go (sheet_refusal ws)
+  unfolding sheet_answer sheet_numbers sheet_refusal numbers_for
+  sheet-numbers room answer is = ap printed_numbers is ∙ go (sound ws)
     where
-      go : (n : ℕ) → printed_numbers (accepted n (answer_for (sheet_text ws) room) (Refused n)) ≡ numbers_for n (sheet_text ws) room
-      go zero = answer-numbers (sheet_text ws) room (answer_for (sheet_text ws) room) refl
-      go (suc n) = refl
+      go : (fine : Bool) → printed_numbers (accepted (cond (not fine) 1 0) (answer_for (sheet_text ws) room) (Err (Refused Unfit)))
+          ≡ numbers_for (cond (not fine) 1 0) (sheet_text ws) room
+      go true = answer-numbers (sheet_text ws) room (answer_for (sheet_text ws) room) refl
+      go false = refl
 
   -- the last line of a sheet has the sums of its columns
   pub last-of-lines : sound ws ≡ true → last_line_of (sheet_text ws) ≡ word_line all_word (column_sums ws)
@@ -74,8 +67,12 @@ module _ (ws : List ℕ) where
       let answered = gave.0 ∙ sym (sheet-answered (length buffer) fine) in
       (answered, (sheet-numbers (length buffer) _ answered, gave.1 ∙ sym (sheet-printed buffer fine)))
 
+-- the answer of a text of this length
+abbrev answer_of : ℕ → Printed
+answer_of n = Ok n
+
 -- a text that fits is written whole, and the bytes past it stay as they were
-pub fitting-written : (text : List ℕ) (room : ℕ) → length text ≤ room → answer_for text room ≡ Written (length text)
+pub fitting-written : (text : List ℕ) (room : ℕ) → length text ≤ room → answer_for text room ≡ Ok (length text)
 unfolding answer_for
 fitting-written text room h = rw (le-leb (length text) room h)
 
@@ -85,9 +82,16 @@ fitting-buffer text buffer h = rw (le-leb (length text) (length buffer) h)
 
 -- so where it is stored in the buffer itself
 pub stored-printed : (text buffer : List ℕ) {after : List ℕ} {count : ℕ} → length text ≤ length buffer → count ≡ length text → after ≡ sets buffer 0 text
-    → (Written count ≡ answer_for text (length buffer)) × (after ≡ buffer_with text buffer)
+    → (Ok count ≡ answer_for text (length buffer)) × (after ≡ buffer_with text buffer)
 stored-printed text buffer h counted stored =
     let fits : 0 + length text ≤ length buffer = omega (arith, h) in (
-      ap Written counted ∙ sym (fitting-written text (length buffer) h),
+      ap (λ (n : ℕ). answer_of n) counted ∙ sym (fitting-written text (length buffer) h),
       stored ∙ (rw zero-add at (sets-eq text buffer 0 fits)) ∙ sym (fitting-buffer text buffer h),
     )
+
+-- and so is a sheet
+pub sheet-stored : (ws buffer : List ℕ) {count : ℕ} {after : List ℕ} → sound ws ≡ true → sheet_room ≤ length buffer → count ≡ length (sheet_text ws)
+    → after ≡ sets buffer 0 (sheet_text ws)
+    → (Ok count ≡ sheet_answer ws (length buffer)) × ((printed_numbers (Ok count) ≡ sheet_numbers ws (length buffer)) × (after ≡ sheet_buffer ws buffer))
+sheet-stored ws buffer fine room counted stored =
+    sheet-given ws buffer fine (stored-printed (sheet_text ws) buffer (omega (arith, room, sheet-fits ws fine)) counted stored)

@@ -3,14 +3,10 @@
 mod Stores
 -- a number's digits
 pub mod Decimals
--- the words of the index
-mod IndexWords
 -- chains that are met
 mod MetChains
 -- the table after the first elements
-mod TableWalk
--- the lines of the index put one by one
-mod RowLoop
+mod TableRows
 -- the text of a sheet by its table
 mod TableLines
 -- the columns of a sheet

@@ -8,12 +8,12 @@ use mathlib.Core.List.{List, [], ◌∷◌, ◌++◌, append-nil, append_assoc}
 use mathlib.Core.Path.{◌≡◌, refl, sym, ◌∙◌, ap}
 use borrow.Author.Tests.{ltb-true}
 use lib.Dec.{ltb}
-use lib.ListN.{length, get_or, drop, set, length-append, drop_of_length-le}
+use lib.ListN.{length, get_or, drop, set, length-append}
 use lib.Seq.{sets, drop-cons}
 use Rattle.apportion.specs.Places.{sum_below}
 use Rattle.book.specs.ClassTotal.{class_total}
 use Rattle.book.specs.Statements.{of_chain, elements_over, statement_of}
-use Rattle.book.specs.declared.replies.Statement.{Statement}
+use Rattle.book.specs.Statements.{StatementReply}
 use Rattle.book.proofs.Laws.{StatementWithin, statement-within, class-total-within}
 use Rattle.book_words.specs.Book.{elements}
 use Rattle.book_words.specs.Measures.{most_chains}
@@ -23,7 +23,7 @@ use Rattle.report.specs.Sheet.{heading, is_used, statement_numbers, chain_line, 
 use Rattle.report.specs.Sheet.{refused_word, refused_text}
 use Rattle.report.specs.Inner.Steps.{refused_room}
 use Rattle.report.proofs.Decimals.{digits-most, digits-few}
-use Rattle.report.proofs.Stores.{sets-append}
+use Rattle.report.proofs.Stores.{sets_append}
 use Rattle.report.proofs.Columns.{elements-by-chain}
 
 -- the most bytes of the end of a line with a statement's numbers: 3, 3, 19, 19 and 19 digits, five spaces and the newline
@@ -53,7 +53,7 @@ pub rest-stored : (numbers out : List ℕ) (end i : ℕ) → i < length numbers
     ≡ sets out end (rest_of numbers i)
 rest-stored numbers out end i h =
     rw (rest-next numbers i h, add-one)
-    (sym (sets-append (decimal (get_or numbers i 0)) (rest_of numbers (i + 1)) (set out end 32) (suc end)))
+    (sym (sets_append (decimal (get_or numbers i 0)) (rest_of numbers (i + 1)) (set out end 32) (suc end)))
 
 pub rest-length : (numbers : List ℕ) (i : ℕ) → i < length numbers
     → length (rest_of numbers i) ≡ 1 + length (decimal (get_or numbers i 0)) + length (rest_of numbers (i + 1))
@@ -61,10 +61,6 @@ rest-length numbers i h =
     ap length (rest-next numbers i h)
     ∙ length-append (32 ∷ decimal (get_or numbers i 0)) (rest_of numbers (i + 1))
     ∙ omega arith
-
--- nothing is left of it but the newline
-pub rest_end : (numbers : List ℕ) (i : ℕ) → length numbers ≤ i → rest_of numbers i ≡ 10 ∷ []
-rest_end numbers i h = rw (drop_of_length-le numbers {i = i} h)
 
 -- the end of a line with the five numbers of a statement, and with the three of a refusal, by the digits of each
 end-of-five : (a b c d e : ℕ) → length (line_end (a ∷ b ∷ c ∷ d ∷ e ∷ []))
@@ -75,16 +71,16 @@ end-of-three : (a b c : ℕ) → length (line_end (a ∷ b ∷ c ∷ [])) ≡ le
 end-of-three a b c = simp length-append (omega arith)
 
 -- so the end of a line with the numbers of a statement has at most 69 bytes
-end-most : (s : Statement) → StatementWithin s → length (line_end (statement_numbers s)) ≤ end_room
+end-most : (s : StatementReply) → StatementWithin s → length (line_end (statement_numbers s)) ≤ end_room
 end-most s within =
     omega (
       arith,
       end-of-five s.elements s.waiting s.operation s.provision s.total,
-      digits-most 2 s.elements (omega (arith, within)),
-      digits-most 2 s.waiting (omega (arith, within)),
-      digits-most 18 s.operation (omega (arith, within)),
-      digits-most 18 s.provision (omega (arith, within)),
-      digits-most 18 s.total (omega (arith, within)),
+      digits-most 2 s.elements (omega (arith, within)) (omega (arith, within)),
+      digits-most 2 s.waiting (omega (arith, within)) (omega (arith, within)),
+      digits-most 18 s.operation (omega (arith, within)) (omega (arith, within)),
+      digits-most 18 s.provision (omega (arith, within)) (omega (arith, within)),
+      digits-most 18 s.total (omega (arith, within)) (omega (arith, within)),
     )
 
 -- and the line of a refusal has room
@@ -109,7 +105,7 @@ module _ (ws : List ℕ) (fine : sound ws ≡ true) where
       omega (
         arith,
         length-append (decimal chain) (line_end (statement_numbers s)),
-        digits-most 4 chain (omega arith),
+        digits-most 4 chain (omega arith) (omega arith),
         end-most s (statement-within ws chain fine),
       )
 

@@ -1,16 +1,16 @@
 -- "The program .. prints the heading and one line per used chain, ascending, or `refused` with number, table (0 header) and record
 -- (0)." The request adds "`all` and five sums" at the end of a sheet. Assumes nothing.
-use Rattle.std.specs.Prelude.{ℕ, zero, suc, ◌+◌, Bool, cond, not, List, [], ◌∷◌, ◌++◌, ltb}
+use Rattle.std.specs.Prelude.{Err, ℕ, zero, suc, ◌+◌, Bool, cond, not, List, [], ◌∷◌, ◌++◌, ltb}
 use Rattle.apportion.specs.Grounds.{Ground, first_of, accepted}
 use Rattle.apportion.specs.Places.{sum_below}
 use Rattle.book.specs.ClassTotal.{class_total}
 use Rattle.book.specs.Statements.{of_chain, elements_over, statement_of}
-use Rattle.book.specs.declared.replies.Statement.{Statement}
+use Rattle.book.specs.Statements.{StatementReply}
 use Rattle.book_words.specs.Measures.{most_chains}
 use Rattle.book_words.specs.Soundness.{sound}
-use Rattle.report.specs.declared.printing.Printed.{Printed}
-use Rattle.report.specs.declared.printing.Printed.TheVariants.{Refused}
-use Rattle.report.specs.Printing.{PrintedNumbers, answer_for, numbers_for, buffer_with}
+use Rattle.apportion.specs.declared.refusing.Refusal.TheVariants.{Unfit}
+use Rattle.report.specs.declared.printing.Unprinted.TheVariants.{Refused}
+use Rattle.report.specs.Printing.{Printed, PrintedNumbers, answer_for, numbers_for, buffer_with}
 use Rattle.report.specs.Text.{line, word_line}
 
 -- "chain elements waiting operation provision total" and a newline
@@ -34,7 +34,7 @@ unfoldable pub is_used : List ℕ → ℕ → Bool
 is_used ws chain = ltb 0 (elements_over ws (of_chain chain))
 
 -- the line of a chain: its number and its statement, under the words of the heading
-abbrev pub statement_numbers : Statement → List ℕ
+abbrev pub statement_numbers : StatementReply → List ℕ
 statement_numbers s = s.elements ∷ s.waiting ∷ s.operation ∷ s.provision ∷ s.total ∷ []
 
 unfoldable pub chain_line : List ℕ → ℕ → List ℕ
@@ -54,7 +54,7 @@ unfoldable pub all_word : List ℕ
 all_word = 97 ∷ 108 ∷ 108 ∷ []
 
 -- "the printed statement to end with `all` and five sums: elements, waiting, operation, provision, total"
-unfoldable pub all_line : Statement → List ℕ
+unfoldable pub all_line : StatementReply → List ℕ
 all_line total = word_line all_word (statement_numbers total)
 
 -- the text of a sheet
@@ -66,7 +66,7 @@ abbrev pub sheet_room : ℕ
 sheet_room = 19_065
 
 -- the sum of a column over the printed lines, which are those of the used chains
-abbrev pub column_sum : List ℕ → (Statement → ℕ) → ℕ
+abbrev pub column_sum : List ℕ → (StatementReply → ℕ) → ℕ
 column_sum ws column = sum_below most_chains (λ j. cond (is_used ws (j + 1)) (column (statement_of ws (j + 1))) 0)
 
 -- the sums of the five columns
@@ -88,7 +88,7 @@ sheet_refusal ws = first_of (sheet_grounds ws)
 
 -- the answer for a buffer of `room` bytes, what it says, and the buffer after
 unfoldable pub sheet_answer : List ℕ → ℕ → Printed
-sheet_answer ws room = accepted (sheet_refusal ws) (answer_for (sheet_text ws) room) (Refused (sheet_refusal ws))
+sheet_answer ws room = accepted (sheet_refusal ws) (answer_for (sheet_text ws) room) (Err (Refused Unfit))
 
 unfoldable pub sheet_numbers : List ℕ → ℕ → PrintedNumbers
 sheet_numbers ws room = numbers_for (sheet_refusal ws) (sheet_text ws) room

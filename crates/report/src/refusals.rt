@@ -5,14 +5,19 @@ ghost use Rattle.report.specs.Printing.{printed_numbers, answer_for, numbers_for
 ghost use Rattle.report.specs.Sheet.{refused_text};
 ghost use Rattle.report.specs.Inner.Steps.{refused_room};
 
-use crate::printing::Printed;
+use crate::printing::Unprinted;
 use crate::{printing, text};
 
 // The most bytes of the line: the word, three numbers of at most 20 digits, three spaces and the newline.
 const ROOM: usize = 71;
 
 // Prints the line of a refusal: its number, table and record.
-pub fn refusal_line(number: u64, table: u64, record: u64, out: &mut [u8]) -> Printed
+pub fn refusal_line(
+    number: u64,
+    table: u64,
+    record: u64,
+    out: &mut [u8],
+) -> Result<usize, Unprinted>
     ensures value { result ≡ answer_for (refused_text number table «record») (length out.old) }
     ensures result_value { printed_numbers result ≡ numbers_for 0 (refused_text number table «record») (length out.old) }
     ensures out_after { out.new ≡ buffer_with (refused_text number table «record») out.old }
@@ -23,6 +28,7 @@ pub fn refusal_line(number: u64, table: u64, record: u64, out: &mut [u8]) -> Pri
 }
 
 // Writes the line from the start of the buffer, and answers its length.
+#[tactic(auto, unfolding(crate::specs::Sheet::refused_text, crate::specs::Sheet::refused_word))]
 fn write_refused(number: u64, table: u64, record: u64, out: &mut [u8]) -> usize
     requires { length out.old ≡ refused_room }
     ensures value { result ≡ length (refused_text number table «record») }

@@ -2,50 +2,56 @@
 ghost use Rattle.std.specs.Prelude.{true, ◌≡◌, ◌+◌, ◌≤◌, length};
 ghost use Rattle.std.proofs.lemmas.List.Edits.{sets};
 ghost use Rattle.book.specs.Walk.{with_total};
-ghost use Rattle.book_words.specs.Book.{elements};
+ghost use Rattle.book_words.specs.Book.{elements, most_elements};
 ghost use Rattle.book_words.specs.Soundness.{sound};
-ghost use Rattle.report.specs.Inner.Table.{Empty, Room, Table, RestKept, HeldFits, SlotFits, SlotsFit, TableFits, row_line, row_lines, table_text};
+ghost use Rattle.report.specs.Inner.Table.{HeldFits, RowsFit, row_line, row_lines, table_text};
 ghost use Rattle.report.specs.Printing.{printed_numbers, answer_for, numbers_for, buffer_with};
 ghost use Rattle.report.specs.Sheet.{statement_numbers, all_line, sheet_text, sheet_room, sheet_answer, sheet_numbers, sheet_buffer};
 
-use crate::printing::Printed;
-use crate::table::Collected;
-use crate::{index, printing, table, text};
+use crate::printing::Unprinted;
+use crate::table::Row;
+use crate::{printing, table, text};
+use apportion::Refusal;
+use arrayvec::ArrayVec;
 use book::Held;
 
 // Room enough for a sheet: the heading, 256 lines of at most 74 bytes, and a last one of at most 72.
 pub const SHEET_ROOM: usize = 19_065;
 
-// The most elements that a small table has slots for.
-const FEW: u64 = 32;
+// The most rows of a small table, and of any, which has one for each element at most.
+const FEW: usize = 32;
+
+const MOST: usize = book_words::MOST_ELEMENTS as usize;
 
 // Prints the sheet of a book of any words.
-pub fn sheet(book: &[u64], out: &mut [u8]) -> Printed
+#[tactic(auto, unfolding(crate::specs::Sheet::sheet_refusal, crate::specs::Sheet::sheet_answer, crate::specs::Sheet::sheet_numbers, crate::specs::Sheet::sheet_buffer, crate::specs::Printing::numbers_for))]
+pub fn sheet(book: &[u64], out: &mut [u8]) -> Result<usize, Unprinted>
     ensures value { result ≡ sheet_answer book.now (length out.old) }
     ensures result_value { printed_numbers result ≡ sheet_numbers book.now (length out.old) }
     ensures out_after { out.new ≡ sheet_buffer book.now out.old }
 {
     if !book_words::is_sound(book) {
-        return Printed::Refused(1);
+        return Err(Unprinted::Refused(Refusal::Unfit));
     }
     sheet_sound(book, out)
 }
 
 // The same of a book that is known to be sound.
-pub fn sheet_sound(book: &[u64], out: &mut [u8]) -> Printed
+#[tactic(auto, unfolding(crate::specs::Sheet::sheet_refusal, crate::specs::Sheet::sheet_answer, crate::specs::Sheet::sheet_numbers, crate::specs::Sheet::sheet_buffer, crate::specs::Printing::answer_for, crate::specs::Printing::numbers_for, crate::specs::Printing::buffer_with))]
+pub fn sheet_sound(book: &[u64], out: &mut [u8]) -> Result<usize, Unprinted>
     requires { sound book.now ≡ true }
     ensures value { result ≡ sheet_answer book.now (length out.old) }
     ensures result_value { printed_numbers result ≡ sheet_numbers book.now (length out.old) }
     ensures out_after { out.new ≡ sheet_buffer book.now out.old }
 {
     if SHEET_ROOM <= out.len() {
-        return Printed::Written(write_sheet(book, out));
+        return Ok(write_sheet(book, out));
     }
     print_within(book, out)
 }
 
 // The same, for a buffer that may be too small: the text is written beside it first.
-fn print_within(book: &[u64], out: &mut [u8]) -> Printed
+fn print_within(book: &[u64], out: &mut [u8]) -> Result<usize, Unprinted>
     requires { sound book.now ≡ true }
     ensures value { result ≡ answer_for (sheet_text book.now) (length out.old) }
     ensures result_value { printed_numbers result ≡ numbers_for 0 (sheet_text book.now) (length out.old) }
@@ -64,82 +70,76 @@ fn write_sheet(book: &[u64], out: &mut [u8]) -> usize
     ensures value { result ≡ length (sheet_text book.now) }
     ensures out_after { out.new ≡ sets out.old 0 (sheet_text book.now) }
 {
-    if book[book_words::ELEMENTS] <= FEW {
-        let mut index = [0u64; 32];
-        let mut slots = [0u64; 128];
-        return write_with(book, &mut index, &mut slots, out);
+    if book[book_words::ELEMENTS] <= FEW as u64 {
+        return write_with_table::<FEW>(book, out);
     }
-    let mut index = [0u64; 256];
-    let mut slots = [0u64; 1024];
-    write_with(book, &mut index, &mut slots, out)
+    write_with_table::<MOST>(book, out)
 }
 
-// The same with a table that has room: one walk fills it, and all lines are put from it.
-fn write_with(book: &[u64], index: &mut [u64], slots: &mut [u64], out: &mut [u8]) -> usize
-    requires book_value { (sound book.now ≡ true) × (sheet_room ≤ length out.old) }
-    requires room { Room book.now index.old slots.old × Empty slots.old }
+// The same with a table of at most N rows: one walk fills it, and all lines are put from it.
+fn write_with_table<const N: usize>(book: &[u64], out: &mut [u8]) -> usize
+    requires book_value { sound book.now ≡ true }
+    requires room { (elements book.now ≤ N) × (N ≤ most_elements) }
+    requires sheet_room_in_bounds { sheet_room ≤ length out.old }
     ensures value { result ≡ length (sheet_text book.now) }
-    ensures table { Table book.now (elements book.now) index.new slots.new }
-    ensures rest_kept { RestKept book.now (elements book.now) index.old slots.old index.new slots.new }
     ensures out_after { out.new ≡ sets out.old 0 (sheet_text book.now) }
 {
-    let c = table::collect(book, index, slots);
-    put_sheet(c, index, slots, out)
+    let mut rows: ArrayVec<Row, N> = ArrayVec::new();
+    let total = table::collect(book, &mut rows);
+    put_sheet(&rows, total, out)
 }
 
-// Puts the heading, the lines of the table's words, and the class total.
-fn put_sheet(c: Collected, index: &[u64], slots: &[u64], out: &mut [u8]) -> usize
-    requires table_fits { TableFits c index.now slots.now }
-    requires slots_in_bounds { length (table_text c index.now slots.now) ≤ length out.old }
-    ensures value { result ≡ length (table_text c index.now slots.now) }
-    ensures out_after { out.new ≡ sets out.old 0 (table_text c index.now slots.now) }
+// Puts the heading, the lines of the table's rows, and the class total.
+#[tactic(auto, using(crate::proofs::Stores::sets_append), unfolding(crate::specs::Inner::Table::table_text, crate::specs::Sheet::heading))]
+fn put_sheet(rows: &[Row], total: Held, out: &mut [u8]) -> usize
+    requires rows_fit { RowsFit rows.now × HeldFits total }
+    requires text_in_bounds { length (table_text rows.now total) ≤ length out.old }
+    ensures value { result ≡ length (table_text rows.now total) }
+    ensures out_after { out.new ≡ sets out.old 0 (table_text rows.now total) }
 {
     let start = text::put_bytes(
         b"chain elements waiting operation provision total\n",
         out,
         0,
     );
-    let end = put_lines(index, slots, c.used, out, start);
-    put_all(c.total, out, end)
+    let end = put_lines(rows, out, start);
+    put_all(total, out, end)
 }
 
-// Puts the lines of the first words of the index.
-fn put_lines(index: &[u64], slots: &[u64], used: usize, out: &mut [u8], start: usize) -> usize
-    requires used_in_bounds { (used ≤ length index.now) × SlotsFit index.now slots.now used }
-    requires used_in_bounds_2 { start + length (row_lines index.now slots.now used) ≤ length out.old }
-    ensures value { result ≡ start + length (row_lines index.now slots.now used) }
-    ensures out_after { out.new ≡ sets out.old start (row_lines index.now slots.now used) }
+// Puts the lines of the rows.
+fn put_lines(rows: &[Row], out: &mut [u8], start: usize) -> usize
+    requires rows_fit { RowsFit rows.now }
+    requires rows_in_bounds { start + length (row_lines rows.now) ≤ length out.old }
+    ensures value { result ≡ start + length (row_lines rows.now) }
+    ensures out_after { out.new ≡ sets out.old start (row_lines rows.now) }
 {
     let mut at = start;
-    let mut row = 0;
-    while row < used {
-        at = put_row(index[row], slots, out, at);
-        row += 1;
+    for row in rows {
+        at = put_row(row, out, at);
     }
     at
 }
 
-// Puts the line of a word's chain.
-fn put_row(word: u64, slots: &[u64], out: &mut [u8], at: usize) -> usize
-    requires slot_fits { SlotFits slots.now word }
-    requires word_in_bounds { at + length (row_line slots.now word) ≤ length out.old }
-    ensures value { result ≡ at + length (row_line slots.now word) }
-    ensures out_after { out.new ≡ sets out.old at (row_line slots.now word) }
+// Puts the line of a row.
+#[tactic(auto, unfolding(crate::specs::Inner::Table::row_line))]
+fn put_row(row: &Row, out: &mut [u8], at: usize) -> usize
+    requires row_fits { HeldFits row.now.held }
+    requires row_in_bounds { at + length (row_line row.now) ≤ length out.old }
+    ensures value { result ≡ at + length (row_line row.now) }
+    ensures out_after { out.new ≡ sets out.old at (row_line row.now) }
 {
-    let held = table::read_slot(slots, index::place_in(word));
-    let numbers = numbers_of(held);
-    text::put_line(index::chain_in(word), &numbers, out, at)
+    text::put_line(row.chain, &numbers_of(row.held), out, at)
 }
 
 // Puts the last line: the class total.
+#[tactic(auto, unfolding(crate::specs::Sheet::all_line, crate::specs::Sheet::all_word))]
 fn put_all(held: Held, out: &mut [u8], at: usize) -> usize
     requires held_fits { HeldFits held }
     requires held_in_bounds { at + length (all_line (with_total held)) ≤ length out.old }
     ensures value { result ≡ at + length (all_line (with_total held)) }
     ensures out_after { out.new ≡ sets out.old at (all_line (with_total held)) }
 {
-    let numbers = numbers_of(held);
-    text::put_word_line(b"all", &numbers, out, at)
+    text::put_word_line(b"all", &numbers_of(held), out, at)
 }
 
 // The numbers of a line: what is held, with the total.

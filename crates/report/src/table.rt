@@ -1,89 +1,66 @@
-// The table of a sheet. One walk over the elements collects for every chain what the walk of its statement holds, and the class
-// total beside it. Each word of the index has a chain, ascending, and the place of its first element; what is held for the chain
-// stands in the slot of that place.
-ghost use Rattle.std.specs.Prelude.{true, ◌≡◌, ◌+◌, ◌*◌, ◌≤◌, ◌<◌, length};
-ghost use Rattle.std.proofs.lemmas.List.Edits.{sets};
+// The table of a sheet: a row for each chain that has been met, ascending, with what the walk of the chain's statement holds. One walk
+// over the elements fills it, and collects the class total beside it.
+ghost use Rattle.std.specs.Prelude.{true, ◌≡◌, ◌+◌, ◌≤◌, ◌<◌, []};
+ghost use Rattle.book.specs.Inner.Chains.{of_chains};
+ghost use Rattle.book.specs.Walk.{held_after, nothing};
 ghost use Rattle.book_words.specs.Book.{elements};
+ghost use Rattle.book_words.specs.Measures.{most_chains};
 ghost use Rattle.book_words.specs.Soundness.{sound};
-ghost use Rattle.report.specs.Inner.Table.{slot_width, held_at, held_words, Empty, Room, chains_met, Table, RestKept, collected_of};
+ghost use Rattle.report.specs.Inner.Table.{rows_after};
 
-use crate::index;
+use arrayvec::ArrayVec;
 use book::Held;
 use book_words::MOST_CHAINS;
 
-// The words of a slot.
-const SLOT_WIDTH: usize = 4;
-
-// What the walk collects beside the table: how many chains are used, and what it holds over all of them.
+// A chain, and what the walk of its statement holds.
 #[derive(Clone, Copy)]
-pub struct Collected {
-    pub used: usize,
-    pub total: Held,
+pub struct Row {
+    pub chain: u64,
+    pub held: Held,
 }
 
-// Fills the table in one walk over the elements.
-pub fn collect(book: &[u64], index: &mut [u64], slots: &mut [u64]) -> Collected
+impl Default for Row {
+    ghost is_default = { λ row. row ≡ record { chain = 0; held = nothing } };
+
+    fn default() -> Row {
+        Row {
+            chain: 0,
+            held: book::NOTHING,
+        }
+    }
+}
+
+// Fills an empty table in one walk over the elements, and answers the class total.
+pub fn collect<const N: usize>(book: &[u64], rows: &mut ArrayVec<Row, N>) -> Held
     requires book_value { sound book.now ≡ true }
-    requires room { Room book.now index.old slots.old }
-    requires empty { Empty slots.old }
-    ensures value { result ≡ collected_of book.now }
-    ensures table { Table book.now (elements book.now) index.new slots.new }
-    ensures rest_kept { RestKept book.now (elements book.now) index.old slots.old index.new slots.new }
+    requires room { elements book.now ≤ N }
+    requires empty { rows.old.items ≡ [] }
+    ensures value { result ≡ held_after book.now (of_chains 1 most_chains) (elements book.now) }
+    ensures table { rows.new.items ≡ rows_after book.now (elements book.now) }
 {
-    let count = book[book_words::ELEMENTS];
-    let mut used = 0;
     let mut total = book::NOTHING;
-    let mut passed = 0;
-    while passed < count {
-        used = add_next(book, passed, used, index, slots);
+    for passed in 0..book[book_words::ELEMENTS] {
+        add_next(book, passed, rows);
         total = book::walk_on(book, 1, MOST_CHAINS, passed, total);
-        passed += 1;
     }
-    Collected { used, total }
+    total
 }
 
-// One element more: adds it at the slot of its chain, and answers how many chains are now met.
-fn add_next(book: &[u64], passed: u64, used: usize, index: &mut [u64], slots: &mut [u64]) -> usize
+// One element more: adds it in the row of its chain. A chain that is not met yet gets a row.
+fn add_next<const N: usize>(book: &[u64], passed: u64, rows: &mut ArrayVec<Row, N>)
     requires book_value { (sound book.now ≡ true) × (passed < elements book.now) }
-    requires room { Room book.now index.old slots.old }
-    requires used_value { (used ≡ chains_met book.now passed) × Table book.now passed index.old slots.old }
-    ensures value { result ≡ chains_met book.now (passed + 1) }
-    ensures table { Table book.now (passed + 1) index.new slots.new }
-    ensures rest_kept { RestKept book.now (passed + 1) index.old slots.old index.new slots.new }
+    requires room { elements book.now ≤ N }
+    requires table { rows.old.items ≡ rows_after book.now passed }
+    ensures { rows.new.items ≡ rows_after book.now (passed + 1) }
 {
-    let e = book_words::numbered_element(book, passed + 1);
-    let found = index::find_or_insert(e.chain, passed, used, index);
-    let held = read_slot(slots, found.place);
-    write_slot(
-        book::walk_on(book, e.chain, e.chain, passed, held),
-        found.place,
-        slots,
-    );
-    found.used
-}
-
-// What the slot of a place holds.
-pub fn read_slot(slots: &[u64], place: u64) -> Held
-    requires { slot_width * place + slot_width ≤ length slots.now }
-    ensures { result ≡ held_at slots.now place }
-{
-    let at = SLOT_WIDTH * place as usize;
-    Held {
-        elements: slots[at],
-        waiting: slots[at + 1],
-        operation: slots[at + 2],
-        provision: slots[at + 3],
+    let chain = book_words::numbered_element(book, passed + 1).chain;
+    match rows.binary_search_by_key(&chain, |row| row.chain) {
+        Ok(at) => {
+            rows[at].held = book::walk_on(book, chain, chain, passed, rows[at].held);
+        }
+        Err(at) => {
+            let held = book::walk_on(book, chain, chain, passed, book::NOTHING);
+            rows.insert(at, Row { chain, held });
+        }
     }
-}
-
-// Writes what the slot of a place holds.
-fn write_slot(held: Held, place: u64, slots: &mut [u64])
-    requires { slot_width * place + slot_width ≤ length slots.old }
-    ensures { slots.new ≡ sets slots.old (slot_width * place) (held_words held) }
-{
-    let at = SLOT_WIDTH * place as usize;
-    slots[at] = held.elements;
-    slots[at + 1] = held.waiting;
-    slots[at + 2] = held.operation;
-    slots[at + 3] = held.provision;
 }

@@ -1,33 +1,21 @@
 -- What the bits of a double spell: the sign, the exponent's field and the digits. Assumes nothing.
-use mathlib.Core.Bool.{Bool, true, false, not, cond, ◌&&◌, ◌||◌, true≢false}
-use mathlib.Core.Path.{◌≡◌, ◌∙◌, ap, refl, sym, subst}
+use mathlib.Core.Bool.{Bool, true, false, cond, ◌&&◌, ◌||◌}
+use mathlib.Core.Path.{◌≡◌, ◌∙◌, ap, refl, sym}
 use Prim.Native.Nat.{ℕ, zero, suc, ◌+◌, ◌-◌, ◌*◌, ◌/◌, ◌%◌, ◌^◌, ◌≤◌, ◌<◌}
 use native.Mathlib.Nat.{mul-one, mul_assoc, mul-pos, mul-le-mul_left, mul-lt-mul_of_pos_right, lt_of_lt_of_le}
 use native.Mathlib.Omega.{arith}
 use borrow.Author.Tests.{lt-ltb, le-ltb, le-leb, lt-leb, leb-true, ne_eqb}
-use lib.Dec.{T, eqb, leb, ltb}
+use lib.Dec.{eqb, leb, ltb}
 use lib.Pow.{pow-add, pow_mono, pow_pos}
-use lib.Ieee.{Float, nan, inf, fin, binary64, is_nan, eq, ne, odd, of_bits, of_fields}
-use lib.Ieee.Compare.{differs_from_itself}
+use lib.Ieee.{Float, nan, inf, binary64, odd, of_bits, of_fields}
 use lib.Ieee.Exact.{HasValue, odd_sign}
+use Rattle.std.proofs.Common.{Err}
 use Rattle.apportion.specs.Fractions.{over}
+use Rattle.apportion.specs.declared.refusing.Refusal.TheVariants.{WrongCell}
 use Rattle.workbook.specs.declared.cells.Cell.TheVariants.{Number}
-use Rattle.workbook.specs.declared.cells.Conversion.TheVariants.{Refused}
 use Rattle.workbook.specs.Doubles.{is_above, is_refused}
-use Rattle.workbook.specs.Inner.Steps.{conversion_of, fraction_conversion}
+use Rattle.workbook.specs.Inner.Steps.{conversion_in, conversion_of, fraction_conversion}
 use Rattle.workbook.proofs.SameValue.{fraction-same, value-refused, value-converted, refused-double}
-
--- what equals itself is no NaN, and so has bits
-pub equal-to-itself : (x : Float) → eq x x ≡ true → T (not (is_nan x))
-unfolding eq is_nan
-equal-to-itself nan e = absurd (true≢false (sym e))
-equal-to-itself (inf s) e = tt
-equal-to-itself (fin s m k) e = tt
-
--- and what does not is one
-pub unequal-to-itself : (x : Float) → eq x x ≡ false → x ≡ nan
-unfolding ne
-unequal-to-itself x e = differs_from_itself x (subst (λ (t : Bool). T (not t)) (sym e) tt)
 
 -- the weights of the sign and of the leading digit, and the field of what is not finite
 abbrev sign_weight : ℕ
@@ -74,9 +62,9 @@ value s x t finite = rw (ne_eqb (suc x) last_field (λ e. omega (arith, e))) (od
 
 module _ (limit b : ℕ) where
   -- what is below zero or not finite is refused
-  pub negative-refused : sign_weight < b → b < 2 * sign_weight → Refused 15 ≡ conversion_of limit (Number (of_bits binary64 b))
+  pub negative-refused : sign_weight < b → b < 2 * sign_weight → conversion_in (Err WrongCell) ≡ conversion_of limit (Number (of_bits binary64 b))
   negative-refused low high =
-      sym (refused-double limit (of_bits binary64 b) (rw (spelled b (field_of b) refl, le-leb sign_weight b (omega arith)) (go (field_of b) refl)))
+      refused-double limit (of_bits binary64 b) (rw (spelled b (field_of b) refl, le-leb sign_weight b (omega arith)) (go (field_of b) refl))
     where
       go : (field : ℕ) → field_of b ≡ field → is_refused limit (of_fields binary64 true field (digits_of b)) ≡ true
       go zero is =
@@ -89,9 +77,9 @@ module _ (limit b : ℕ) where
           fields-refused limit true x (digits_of b) (rw (lt-ltb 0 (q * 2 ^ x) some))
 
   -- so is what has a field above 1074
-  pub large-refused : limit < leading_weight → b ≤ sign_weight → 1074 < field_of b → Refused 15 ≡ conversion_of limit (Number (of_bits binary64 b))
+  pub large-refused : limit < leading_weight → b ≤ sign_weight → 1074 < field_of b → conversion_in (Err WrongCell) ≡ conversion_of limit (Number (of_bits binary64 b))
   large-refused small low high =
-      sym (refused-double limit (of_bits binary64 b) (rw (spelled b (field_of b) refl, lt-leb sign_weight b (omega arith)) (go (field_of b) high)))
+      refused-double limit (of_bits binary64 b) (rw (spelled b (field_of b) refl, lt-leb sign_weight b (omega arith)) (go (field_of b) high))
     where
       go : (field : ℕ) → 1074 < field → is_refused limit (of_fields binary64 false field (digits_of b)) ≡ true
       go zero h = let z : ⊥ = omega arith in absurd z
@@ -117,13 +105,13 @@ module _ (limit b : ℕ) where
       unsigned false is = refl
 
   -- with it
-  pub converted : b ≤ sign_weight → (field_of b ≡ 0 → ⊥) → field_of b ≤ 1074
+  pub converted : b ≤ sign_weight → 0 < field_of b → field_of b ≤ 1074
       → fraction_conversion limit (over (leading_weight + digits_of b) (2 ^ (1075 - field_of b))) ≡ conversion_of limit (Number (of_bits binary64 b))
   converted low some high = go (field_of b) refl some high
     where
-      go : (field : ℕ) → field_of b ≡ field → (field ≡ 0 → ⊥) → field ≤ 1074
+      go : (field : ℕ) → field_of b ≡ field → 0 < field → field ≤ 1074
           → fraction_conversion limit (over (leading_weight + digits_of b) (2 ^ (1075 - field))) ≡ conversion_of limit (Number (of_bits binary64 b))
-      go zero is some h = absurd (some refl)
+      go zero is some h = let z : ⊥ = omega arith in absurd z
       go (suc x) is some h =
           let q = leading_weight + digits_of b in
           let places = 1075 - suc x in

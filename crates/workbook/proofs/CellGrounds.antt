@@ -1,76 +1,85 @@
 -- A cell by its grounds, and a line by its cells. Assumes nothing.
-use mathlib.Core.Bool.{Bool, true, false, cond, ◌||◌, true≢false}
+use mathlib.Core.Bool.{Bool, true, false, cond, ◌||◌}
 use mathlib.Core.List.{List, ◌++◌}
 use mathlib.Core.Path.{◌≡◌, ◌∙◌, ap, refl, sym}
 use Prim.Native.Nat.{ℕ, zero, suc}
 use native.Mathlib.Omega.{arith}
 use lib.Dec.{eqb}
 use lib.Ieee.{Float, lt}
+use Rattle.std.proofs.Common.{Result, Ok, Err}
+use Rattle.std.specs.Result.{IsErrAnd}
 use Rattle.apportion.specs.Grounds.{accepted, Ground, first_of}
-use Rattle.apportion.proofs.Grounds.{refused-old, never_given, never_both}
+use Rattle.apportion.specs.Refusals.{number_of}
+use Rattle.apportion.specs.declared.refusing.Refusal.{Refusal}
+use Rattle.apportion.specs.declared.refusing.Refusal.TheVariants.{ReversedSpan}
+use Rattle.apportion.proofs.Grounds.{never_given, never_both}
+use Rattle.apportion.proofs.Refusals.{number-some, refused-leaves}
 use Rattle.workbook.specs.declared.cells.Cell.{Cell}
 use Rattle.workbook.specs.declared.cells.Cell.TheVariants.{Blank, Number, Span}
-use Rattle.workbook.specs.declared.cells.Conversion.{Conversion}
-use Rattle.workbook.specs.declared.cells.Conversion.TheVariants.{Value, Refused}
 use Rattle.workbook.specs.declared.lines.Line.{Line}
-use Rattle.workbook.specs.Doubles.{exact, thousandths, is_refused}
+use Rattle.workbook.specs.Doubles.{is_refused}
 use Rattle.workbook.specs.Cells.{quantity_limit, factor_limit, cell_grounds, cell_refusal, mean, cell_value}
-use Rattle.workbook.specs.Inner.Steps.{conversion_by, conversion_of, refusal_of, value_of, first_number}
-use Rattle.workbook.specs.Lines.{line_grounds, line_refusal, converted_line}
+use Rattle.workbook.specs.Inner.Steps.{Conversion, conversion_in, conversion_by, conversion_of}
+use Rattle.workbook.specs.Lines.{line_grounds, line_refusal, converted_line, line_conversion_in}
 
--- a conversion by its number and its value
-by_number : (refusal value : ℕ) → (refusal_of (conversion_by refusal value) ≡ refusal) × (value_of (conversion_by refusal value) ≡ accepted refusal value 0)
-by_number zero value = (refl, refl)
-by_number (suc n) value = (refl, refl)
+-- the answer that a refusal is handed on in
+pub handed-on_as : {A : Type 0} (r : Refusal) (answer : Result A Refusal) → IsErrAnd answer (λ e. e ≡ r) → answer ≡ Err r
+handed-on_as r (Ok a) h = absurd h
+handed-on_as r (Err e) h = rw h
 
--- document 02's number and the value of a cell's conversion
-abbrev pub NumbersOf : ℕ → Cell → Conversion → Type 0
-NumbersOf limit cell r = (refusal_of r ≡ cell_refusal limit cell) × (value_of r ≡ accepted (cell_refusal limit cell) (cell_value cell) 0)
-
-pub with-numbers : (limit : ℕ) (cell : Cell) {r : Conversion} → r ≡ conversion_of limit cell → (r ≡ conversion_of limit cell) × NumbersOf limit cell r
+-- a cell by the answer of its conversion
+cell_refused : (limit : ℕ) (cell : Cell) (r : Refusal) → conversion_in (Err r) ≡ conversion_of limit cell → number_of r ≡ cell_refusal limit cell
 unfolding conversion_of
-with-numbers limit cell e =
-    let numbers = by_number (cell_refusal limit cell) (cell_value cell) in
-    (e, (ap refusal_of e ∙ numbers.0, ap value_of e ∙ numbers.1))
+cell_refused limit cell r e = ap (λ (c : Conversion). c.refusal) e
 
-abbrev is_value : Conversion → Bool
-is_value (Value value) = true
-is_value (Refused number) = false
-
--- a double by its conversion
-pub number-refused : (limit : ℕ) (x : Float) (n : ℕ) → conversion_of limit (Number x) ≡ Refused n → is_refused limit x ≡ true
+cell_converted : (limit : ℕ) (cell : Cell) (v : ℕ) → conversion_in (Ok v) ≡ conversion_of limit cell → (cell_refusal limit cell ≡ 0) × (v ≡ cell_value cell)
 unfolding conversion_of
-number-refused limit x n e = go (is_refused limit x) e
+cell_converted limit cell v e = go (cell_refusal limit cell) e
   where
-    go : (refused : Bool) → conversion_by (cond refused 15 0) (thousandths (exact x)) ≡ Refused n → refused ≡ true
-    go true e = refl
-    go false e = absurd (true≢false (ap is_value e))
-
-pub number-value : (limit : ℕ) (x : Float) (v : ℕ) → conversion_of limit (Number x) ≡ Value v → (is_refused limit x ≡ false) × (v ≡ thousandths (exact x))
-unfolding conversion_of
-number-value limit x v e = go (is_refused limit x) e
-  where
-    go : (refused : Bool) → conversion_by (cond refused 15 0) (thousandths (exact x)) ≡ Value v → (refused ≡ false) × (v ≡ thousandths (exact x))
-    go true e = absurd (true≢false (sym (ap is_value e)))
-    go false e = (refl, sym (ap value_of e))
+    go : (n : ℕ) → conversion_in (Ok v) ≡ conversion_by n (cell_value cell) → (n ≡ 0) × (v ≡ cell_value cell)
+    go zero e = (refl, ap (λ (c : Conversion). c.value) e)
+    go (suc n) e = let z = ap (λ (c : Conversion). c.refusal) e in absurd (omega (arith, z))
 
 -- a span whose first double is refused, one whose second is, one that is exchanged, and any other
-pub span-first : (limit : ℕ) (x y : Float) → is_refused limit x ≡ true → Refused 15 ≡ conversion_of limit (Span x y)
-unfolding conversion_of
-span-first limit x y e = rw e
+double-refused : (limit : ℕ) (x : Float) (r : Refusal) → conversion_in (Err r) ≡ conversion_of limit (Number x) → is_refused limit x ≡ true
+double-refused limit x r e = go (is_refused limit x) (cell_refused limit (Number x) r e)
+  where
+    go : (refused : Bool) → number_of r ≡ cond refused 15 0 → refused ≡ true
+    go true e = refl
+    go false e = absurd (number-some r e)
 
-module _ (limit : ℕ) (x y : Float) (fine : is_refused limit x ≡ false) where
-  pub span_second : is_refused limit y ≡ true → Refused 15 ≡ conversion_of limit (Span x y)
-  unfolding conversion_of
-  span_second e = rw (fine, e)
+double-fine : (limit : ℕ) (x : Float) (v : ℕ) → conversion_in (Ok v) ≡ conversion_of limit (Number x) → is_refused limit x ≡ false
+double-fine limit x v e = go (is_refused limit x) (cell_converted limit (Number x) v e).0
+  where
+    go : (refused : Bool) → ◌≡◌ {A = ℕ} (cond refused 15 0) 0 → refused ≡ false
+    go true e = let z : ⊥ = omega (arith, e) in absurd z
+    go false e = refl
 
-  pub span-exchanged : is_refused limit y ≡ false → lt y x ≡ true → Refused 16 ≡ conversion_of limit (Span x y)
+module _ (limit : ℕ) (x y : Float) where
+  pub span-first : (r : Refusal) → conversion_in (Err r) ≡ conversion_of limit (Number x) → conversion_in (Err r) ≡ conversion_of limit (Span x y)
   unfolding conversion_of
-  span-exchanged e below = rw (fine, e, below)
+  span-first r e = e ∙ rw (double-refused limit x r e)
 
-  pub span-converted : is_refused limit y ≡ false → lt y x ≡ false → Value (mean (thousandths (exact x)) (thousandths (exact y))) ≡ conversion_of limit (Span x y)
-  unfolding conversion_of
-  span-converted e below = rw (fine, e, below)
+  module _ (a : ℕ) (first : conversion_in (Ok a) ≡ conversion_of limit (Number x)) where
+    pub span_second : (r : Refusal) → conversion_in (Err r) ≡ conversion_of limit (Number y) → conversion_in (Err r) ≡ conversion_of limit (Span x y)
+    unfolding conversion_of
+    span_second r e = e ∙ rw (double-fine limit x a first, double-refused limit y r e)
+
+    module _ (b : ℕ) (second : conversion_in (Ok b) ≡ conversion_of limit (Number y)) where
+      pub span-exchanged : lt y x ≡ true → conversion_in (Err ReversedSpan) ≡ conversion_of limit (Span x y)
+      unfolding conversion_of
+      span-exchanged below = rw (double-fine limit x a first, double-fine limit y b second, below)
+
+      pub span-converted : lt y x ≡ false → conversion_in (Ok (mean a b)) ≡ conversion_of limit (Span x y)
+      unfolding conversion_of
+      span-converted below =
+          rw (
+            double-fine limit x a first,
+            double-fine limit y b second,
+            below,
+            (cell_converted limit (Number x) a first).1,
+            (cell_converted limit (Number y) b second).1,
+          )
 
 -- a cell's grounds decide, or those behind them
 cell-first : (limit : ℕ) (cell : Cell) (rest : List Ground)
@@ -94,8 +103,8 @@ cell-never number limit Blank e f = rw e
 cell-never number limit (Number x) e f = rw e
 cell-never number limit (Span x y) e f = rw (e, f)
 
--- where the first of three numbers is 0, all three are
-none-of-three : (a b c : ℕ) → first_number a b c ≡ 0 → (a ≡ 0) × (b ≡ 0) × (c ≡ 0)
+-- where the first of three numbers that is not 0 is none, all three are 0
+none-of-three : (a b c : ℕ) → accepted a (accepted b c b) a ≡ 0 → (a ≡ 0) × (b ≡ 0) × (c ≡ 0)
 none-of-three zero zero c e = (refl, refl, e)
 none-of-three zero (suc b) c e = let z : ⊥ = omega (arith, e) in absurd z
 none-of-three (suc a) b c e = let z : ⊥ = omega (arith, e) in absurd z
@@ -111,7 +120,7 @@ module _ (line : Line) where
   abbrev provision_refusal : ℕ
   provision_refusal = cell_refusal factor_limit line.provision_factor
 
-  refusal-by-cells : line_refusal line ≡ first_number quantity_refusal operation_refusal provision_refusal
+  refusal-by-cells : line_refusal line ≡ accepted quantity_refusal (accepted operation_refusal provision_refusal operation_refusal) quantity_refusal
   unfolding line_refusal
   refusal-by-cells =
       let p = cell_grounds factor_limit line.provision_factor in
@@ -131,29 +140,43 @@ module _ (line : Line) where
   pub cells-accepted : line_refusal line ≡ 0 → (quantity_refusal ≡ 0) × (operation_refusal ≡ 0) × (provision_refusal ≡ 0)
   cells-accepted e = none-of-three quantity_refusal operation_refusal provision_refusal (sym refusal-by-cells ∙ e)
 
-  -- from the numbers of the three conversions
-  module _ (q o p : Conversion) (of-q : NumbersOf quantity_limit line.quantity q) (of-o : NumbersOf factor_limit line.operation_factor o)
-      (of-p : NumbersOf factor_limit line.provision_factor p) where
-    line-refusal : first_number (refusal_of q) (refusal_of o) (refusal_of p) ≡ line_refusal line
-    line-refusal = rw (of-q.0, of-o.0, of-p.0) (sym refusal-by-cells)
+  -- a line is refused as the first of its refused cells is
+  refused-by : (r : Refusal) → number_of r ≡ line_refusal line → line_conversion_in (Err r) ≡ converted_line line
+  refused-by r is =
+      rw (
+        ← is,
+        refused-leaves r (cell_value line.quantity) 0 refl,
+        refused-leaves r (cell_value line.operation_factor) 0 refl,
+        refused-leaves r (cell_value line.provision_factor) 0 refl,
+      )
 
-    -- a refused line
-    pub line_refused : (r : ℕ) → r ≡ first_number (refusal_of q) (refusal_of o) (refusal_of p) → (r ≡ 0 → ⊥)
-        → record { refusal = r; quantity = 0; operation_factor = 0; provision_factor = 0 } ≡ converted_line line
-    line_refused r is ne =
-        let same = is ∙ line-refusal in
-        let refused : line_refusal line ≡ 0 → ⊥ = λ e. ne (same ∙ e) in
-        rw (
-          same,
-          refused-old (line_refusal line) (cell_value line.quantity) 0 refused,
-          refused-old (line_refusal line) (cell_value line.operation_factor) 0 refused,
-          refused-old (line_refusal line) (cell_value line.provision_factor) 0 refused,
-        )
+  pub quantity_refused : (r : Refusal) → conversion_in (Err r) ≡ conversion_of quantity_limit line.quantity → line_conversion_in (Err r) ≡ converted_line line
+  quantity_refused r e =
+      let is = cell_refused quantity_limit line.quantity r e in
+      refused-by r (is ∙ sym (refused-leaves r (accepted operation_refusal provision_refusal operation_refusal) quantity_refusal is) ∙ sym refusal-by-cells)
 
-    -- an accepted one
-    pub line-converted : (r : ℕ) → r ≡ first_number (refusal_of q) (refusal_of o) (refusal_of p) → r ≡ 0
-        → record { refusal = 0; quantity = value_of q; operation_factor = value_of o; provision_factor = value_of p } ≡ converted_line line
-    line-converted r made none =
-        let is : line_refusal line ≡ 0 = sym (made ∙ line-refusal) ∙ none in
-        let each = cells-accepted is in
-        rw (is, of-q.1, of-o.1, of-p.1, each.0, each.1, each.2)
+  module _ (q : ℕ) (quantity : conversion_in (Ok q) ≡ conversion_of quantity_limit line.quantity) where
+    pub operation_refused : (r : Refusal) → conversion_in (Err r) ≡ conversion_of factor_limit line.operation_factor
+        → line_conversion_in (Err r) ≡ converted_line line
+    operation_refused r e =
+        let is = cell_refused factor_limit line.operation_factor r e in
+        let fine = (cell_converted quantity_limit line.quantity q quantity).0 in
+        refused-by r (is ∙ sym (refused-leaves r provision_refusal operation_refusal is) ∙ sym (refusal-by-cells ∙ rw fine))
+
+    module _ (o : ℕ) (operation : conversion_in (Ok o) ≡ conversion_of factor_limit line.operation_factor) where
+      pub provision_refused : (r : Refusal) → conversion_in (Err r) ≡ conversion_of factor_limit line.provision_factor
+          → line_conversion_in (Err r) ≡ converted_line line
+      provision_refused r e =
+          let is = cell_refused factor_limit line.provision_factor r e in
+          let first = (cell_converted quantity_limit line.quantity q quantity).0 in
+          let second = (cell_converted factor_limit line.operation_factor o operation).0 in
+          refused-by r (is ∙ sym (refusal-by-cells ∙ rw (first, second)))
+
+      -- and converted where no cell is refused
+      pub line-converted : (p : ℕ) → conversion_in (Ok p) ≡ conversion_of factor_limit line.provision_factor
+          → line_conversion_in (Ok (record { quantity = q; operation_factor = o; provision_factor = p })) ≡ converted_line line
+      line-converted p provision =
+          let first = cell_converted quantity_limit line.quantity q quantity in
+          let second = cell_converted factor_limit line.operation_factor o operation in
+          let third = cell_converted factor_limit line.provision_factor p provision in
+          rw (refusal-by-cells, first.0, second.0, third.0, first.1, second.1, third.1)

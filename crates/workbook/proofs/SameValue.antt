@@ -10,13 +10,14 @@ use lib.Dec.{ltb}
 use lib.Ieee.{Float, nan, inf, fin, up, down}
 use lib.Ieee.Exact.{HasValue}
 use lib.Ieee.Fits.{down_pos, up_pos}
+use Rattle.std.proofs.Common.{Err}
 use Rattle.apportion.specs.Fractions.{over}
+use Rattle.apportion.specs.declared.refusing.Refusal.TheVariants.{WrongCell}
 use Rattle.apportion.proofs.Sums.{below_or_not}
 use Rattle.apportion.proofs.Rounding.{nearest-same}
 use Rattle.workbook.specs.declared.cells.Cell.TheVariants.{Number}
-use Rattle.workbook.specs.declared.cells.Conversion.TheVariants.{Refused}
 use Rattle.workbook.specs.Doubles.{exact, thousandths, is_above, is_refused}
-use Rattle.workbook.specs.Inner.Steps.{conversion_of, fraction_conversion}
+use Rattle.workbook.specs.Inner.Steps.{conversion_in, conversion_of, fraction_conversion}
 
 -- two tests that say the same
 same_test : (a b c d : ℕ) → (a < b → c < d) → (c < d → a < b) → ltb a b ≡ ltb c d
@@ -72,6 +73,6 @@ module _ (limit : ℕ) (s : Bool) (a c : ℕ) (some : 0 < c) where
   value-converted x v e = rw (value-refused x v, e, value-thousandths x v)
 
 -- a double that is refused
-pub refused-double : (limit : ℕ) (x : Float) → is_refused limit x ≡ true → conversion_of limit (Number x) ≡ Refused 15
+pub refused-double : (limit : ℕ) (x : Float) → is_refused limit x ≡ true → conversion_in (Err WrongCell) ≡ conversion_of limit (Number x)
 unfolding conversion_of
 refused-double limit x e = rw e

@@ -1,6 +1,8 @@
 -- "A line has three cells: quantity in units, and two factors in grams per unit." Assumes nothing.
-use Rattle.std.specs.Prelude.{List, ◌++◌, ℕ}
+use Rattle.std.specs.Prelude.{List, ◌++◌, ℕ, Result, Ok, Err}
 use Rattle.apportion.specs.Grounds.{accepted, Ground, first_of}
+use Rattle.apportion.specs.Refusals.{number_of}
+use Rattle.apportion.specs.declared.refusing.Refusal.{Refusal}
 use Rattle.workbook.specs.declared.lines.Line.{Line}
 use Rattle.workbook.specs.declared.lines.ConvertedLine.{ConvertedLine}
 use Rattle.workbook.specs.Cells.{quantity_limit, factor_limit, cell_grounds, cell_value}
@@ -15,7 +17,13 @@ unfoldable pub line_refusal : Line → ℕ
 line_refusal line = first_of (line_grounds line)
 
 -- what a line is posted with, in thousandths of its units; "A refusal returns its number with zeros"
-abbrev pub converted_line : Line → ConvertedLine
+pub record LineConversion : Type 0 where
+  pub refusal : ℕ
+  pub quantity : ℕ
+  pub operation_factor : ℕ
+  pub provision_factor : ℕ
+
+abbrev pub converted_line : Line → LineConversion
 converted_line line =
     record {
       refusal = line_refusal line;
@@ -23,3 +31,14 @@ converted_line line =
       operation_factor = accepted (line_refusal line) (cell_value line.operation_factor) 0;
       provision_factor = accepted (line_refusal line) (cell_value line.provision_factor) 0;
     }
+
+-- what an answer says
+abbrev pub line_conversion_in : Result ConvertedLine Refusal → LineConversion
+line_conversion_in (Ok line) =
+    record {
+      refusal = 0;
+      quantity = line.quantity;
+      operation_factor = line.operation_factor;
+      provision_factor = line.provision_factor;
+    }
+line_conversion_in (Err refusal) = record { refusal = number_of refusal; quantity = 0; operation_factor = 0; provision_factor = 0 }

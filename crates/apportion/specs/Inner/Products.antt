@@ -1,13 +1,18 @@
 -- Pool × weight by the total, made bit by bit: what inner functions require and promise. Assumes nothing.
-use Rattle.std.specs.Prelude.{◌≡◌, List, ℕ, ◌+◌, ◌*◌, ◌^◌, ◌≤◌, ◌<◌, length}
-use Rattle.apportion.specs.Places.{at}
+use Rattle.std.specs.Prelude.{◌≡◌, List, ℕ, ◌+◌, ◌*◌, ◌^◌, ◌≤◌, ◌<◌, length, get_or}
+use Rattle.apportion.specs.declared.floors.Division.{Division}
 use Rattle.apportion.specs.Dividing.{most_pool, most_total}
 
--- the two tables hold pool × 2 ^ bit by the total, for each bit that a weight within the total can have
-pub record Powers (pool total : ℕ) (quotients remainders : List ℕ) : Type 0 where
-  pub long : (length quotients ≡ 60) × (length remainders ≡ 60)
-  pub whole : (bit : ℕ) → 2 ^ bit ≤ total → at quotients bit * total + at remainders bit ≡ pool * 2 ^ bit
-  pub less : (bit : ℕ) → 2 ^ bit ≤ total → at remainders bit < total
+-- the division at a bit of a list of them; 0 past its end
+abbrev pub division_at : List Division → ℕ → Division
+division_at divisions bit = get_or divisions bit (record { quotient = 0; remainder = 0 })
+
+-- the list holds pool × 2 ^ bit by the total, for each bit that a weight within the total can have
+pub record Powers (pool total : ℕ) (divisions : List Division) : Type 0 where
+  pub long : length divisions ≡ 60
+  pub whole : (bit : ℕ) → 2 ^ bit ≤ total
+      → (division_at divisions bit).quotient * total + (division_at divisions bit).remainder ≡ pool * 2 ^ bit
+  pub less : (bit : ℕ) → 2 ^ bit ≤ total → (division_at divisions bit).remainder < total
 
 -- what the numbers of an accepted division meet, where T is above 0
 pub record Accepted (pool total : ℕ) : Type 0 where

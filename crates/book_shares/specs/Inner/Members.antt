@@ -1,6 +1,6 @@
 -- The elements of a category by their places, and what is measured of them: what inner functions require and promise. Assumes
 -- nothing.
-use Rattle.std.specs.Prelude.{Bool, List, ◌++◌, ◌≡◌, ℕ, eqb, length, drop}
+use Rattle.std.specs.Prelude.{Bool, List, ℕ, eqb, length}
 use Rattle.apportion.specs.Places.{at, kept_below, list_below, sum_below}
 use Rattle.book_words.specs.Book.{elements, element_at}
 use Rattle.book_words.specs.Measures.{by_stated_mass}
@@ -18,15 +18,6 @@ is_member ws category place = eqb (element_at ws place).category category
 -- the places of the category's elements, in their order
 unfoldable pub members : List ℕ → ℕ → List ℕ
 members ws category = kept_below (elements ws) (is_member ws category) (λ p. p)
-
--- these are the places of the elements of some category
-pub record Listed (ws places : List ℕ) : Type 0 where
-  pub category : ℕ
-  pub are : places ≡ members ws category
-
--- a slice with these numbers at its front; the others are the old ones
-abbrev pub starting_with : List ℕ → List ℕ → List ℕ
-starting_with xs old = xs ++ drop (length xs) old
 
 -- f at each of these places
 abbrev pub at_places : List ℕ → (ℕ → ℕ) → List ℕ

@@ -1,7 +1,7 @@
 -- The steps of the test and of the sums, and records by their numbers: what the functions that the calls are made of require and
 -- promise. Assumes nothing.
-use Rattle.std.specs.Prelude.{Bool, ◌||◌, cond, List, [], ℕ, ◌+◌, ◌*◌, ◌-◌, ◌≤◌, min, suc, eqb, length}
-use Rattle.apportion.specs.Places.{sum_below, one_if}
+use Rattle.std.specs.Prelude.{Bool, true, ◌≡◌, cond, List, [], ℕ, ◌+◌, ◌-◌, ◌≤◌, min, suc, length}
+use Rattle.apportion.specs.Places.{sum_below}
 use Rattle.book_words.specs.declared.records.Category.{Category}
 use Rattle.book_words.specs.declared.records.Element.{Element}
 use Rattle.book_words.specs.declared.records.Entry.{Entry}
@@ -10,7 +10,9 @@ use Rattle.book_words.specs.declared.totals.Sums.{Sums}
 use Rattle.book_words.specs.Book.{book_length, categories, most_categories, category_at, category_of}
 use Rattle.book_words.specs.Book.{entries, most_entries, entry_at, entry_of, elements, most_elements, element_at}
 use Rattle.book_words.specs.Measures.{between, standard_activity}
-use Rattle.book_words.specs.Soundness.{all_below, header_fine, category_fine, entry_fine, element_fine, passengers_fine, sums_fine, shares_fine}
+use Rattle.book_words.specs.Soundness.{all_below, header_fine, category_fine, entry_fine, element_fine, elements_fine, passengers_fine, sums_fine, shares_fine}
+use Rattle.book_words.specs.declared.soundness.List.{List as Tested}
+use Rattle.book_words.specs.declared.soundness.List.TheVariants.{Header, Categories, Entries, Elements, Passengers, Sums as SumsList, Closings}
 use Rattle.book_words.specs.declared.totals.Side.{Side}
 use Rattle.book_words.specs.declared.totals.Side.TheVariants.{Operation as operation, Provision as provision}
 use Rattle.book_words.specs.Totals.{most_emissions, quoted_share, unstruck, emitted}
@@ -43,32 +45,38 @@ pub record CountsWithin (ws : List ℕ) : Type 0 where
 abbrev pub Limited : List ℕ → Type 0
 Limited ws = (side : Side) → emitted ws side ≤ most_emissions
 
--- the lists that the test looks through, in the order in which `sound` names them: 0 the header, 1 categories, 2 entries,
--- 3 elements, 4 their passengers, 5 the sums, 6 closings. The header, the passengers and the sums are one record each
-abbrev pub count_in : List ℕ → ℕ → ℕ
-count_in ws list =
-    cond (eqb list 1 || eqb list 6) (categories ws) (cond (eqb list 2) (entries ws) (cond (eqb list 3) (elements ws) 1))
+-- how many records a list of the test has: the header, the passengers and the sums are one record each
+abbrev pub count_in : List ℕ → Tested → ℕ
+count_in ws Header = 1
+count_in ws Categories = categories ws
+count_in ws Entries = entries ws
+count_in ws Elements = elements ws
+count_in ws Passengers = 1
+count_in ws SumsList = 1
+count_in ws Closings = categories ws
 
-abbrev pub record_fine : List ℕ → ℕ → ℕ → Bool
-record_fine ws list place =
-    cond (eqb list 0) (header_fine ws)
-    (cond (eqb list 1) (category_fine (category_at ws place))
-    (cond (eqb list 2) (entry_fine ws (entry_at ws place))
-    (cond (eqb list 3) (element_fine ws (element_at ws place))
-    (cond (eqb list 4) (passengers_fine ws)
-    (cond (eqb list 5) (sums_fine ws) (shares_fine ws place))))))
+abbrev pub record_fine : List ℕ → Tested → ℕ → Bool
+record_fine ws Header place = header_fine ws
+record_fine ws Categories place = category_fine (category_at ws place)
+record_fine ws Entries place = entry_fine ws (entry_at ws place)
+record_fine ws Elements place = element_fine ws (element_at ws place)
+record_fine ws Passengers place = passengers_fine ws
+record_fine ws SumsList place = sums_fine ws
+record_fine ws Closings place = shares_fine ws place
 
 -- every record of a list keeps its rules
-unfoldable pub list_fine : List ℕ → ℕ → Bool
+unfoldable pub list_fine : List ℕ → Tested → Bool
 list_fine ws list = all_below (count_in ws list) (record_fine ws list)
 
--- where it is remembered that passengers of a category have been seen, weighed ones apart from the others: two places for each
--- number from 0 on
-abbrev pub seen_at : ℕ → Bool → ℕ
-seen_at category weighed = 2 * category + one_if weighed
-
-abbrev pub seen_places : ℕ
-seen_places = 2 * (most_categories + 1)
+-- what the rules of a list take for granted: those of the lists before it give it
+abbrev pub ReadyFor : Tested → List ℕ → Type 0
+ReadyFor Header ws = Unit {0}
+ReadyFor Categories ws = CountsWithin ws
+ReadyFor Entries ws = CountsWithin ws
+ReadyFor Elements ws = CountsWithin ws
+ReadyFor Passengers ws = CountsWithin ws × (elements_fine ws ≡ true)
+ReadyFor SumsList ws = CountsWithin ws
+ReadyFor Closings ws = CountsWithin ws × Limited ws
 
 -- an amount of this side, and two amounts by their sides
 abbrev pub side_of : Side → Amounts → ℕ

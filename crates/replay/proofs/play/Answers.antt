@@ -1,50 +1,49 @@
-use Prim.Native.Nat.{ℕ, ◌+◌, ◌-◌, ◌≤◌, ◌<◌}
-use native.Mathlib.Nat.{le_of_eq}
+-- `replay::play` meets its contract. Assumes nothing.
 use native.Mathlib.Omega.{arith}
-use mathlib.Core.Path.{◌≡◌, ◌∙◌}
-use mathlib.Core.List.{List}
-use lib.ListN.{length, drop, length-drop}
-use lib.Seq.{take_all, drop-drop}
+use mathlib.Core.Path.{sym, ◌∙◌}
+use Rattle.std.proofs.lemmas.List.{nil_from_length}
+use lib.ListN.{length-append}
 use Rattle.book_words.proofs.Booleans.{both}
-use Rattle.replay.specs.Stages.{Stage, stage_of, counted, handled}
+use Rattle.std.specs.Slice.Iter.{chunks_rest}
+use Rattle.replay.specs.Stages.{stage_of}
 use Rattle.replay.proofs.Stages.{unfailed-bad, replay-on, replay-stop, one-passed}
 use Rattle.replay.proofs.play.Goals as goal
 
-pub loop-at-preserved : goal.loop-at-preserved
-loop-at-preserved c =
-    let left : List ℕ = drop c.loop-at.at c.args.chunk.now in
-    let there : Stage = stage_of c.loop-at.memory c.loop-at.file c.loop-at.buffer c.loop-at.state in
-    let after : Stage = stage_of c.perform-state.new.memory c.receive-received.new.file c.perform-state.new.buffer c.perform-state.result in
-    let more : 0 < length left = rw length-drop (omega arith) in
-    let done : after ≡ handled left (counted there) = let all = le_of_eq (length-drop c.loop-at.at c.args.chunk.now) in
-    c.perform-state.ensures ∙ (rw (take_all _ left all) at (c.receive-received.ensures c.loop-at.memory c.loop-at.buffer)) in
-    let few : c.perform-state.result.passed + (length c.args.chunk.now - (c.loop-at.at + 64))
-    ≤ c.args.state.passed + length c.args.chunk.now = omega (arith, c.loop-at.invariant.1, one-passed left there after more done, c.loop-at-test.true) in
-    let good = (both c.perform-state.result.good c.perform-state.result.output.ok c.if-state.true).0 in (
-      rw (← drop-drop) (replay-on left there after more done good ∙ c.loop-at.invariant.0),
-      few,
-    )
+pub loop-record-preserved : goal.loop-record-preserved
+loop-record-preserved c =
+    let step = c.in-Some.ensures.steps in
+    let bytes = step.1.0 in
+    let sized = rw (c.loop-record.invariant.size, bytes) at step.1.1 in
+    let some = rw bytes at step.1.2 in
+    let front = c.in-Some.record.now in
+    let left = chunks_rest c.next.new.self in
+    let good = (both c.handle.new.self.good c.handle.new.self.output.ok (sym c.goes_on.ensures ∙ c.if-not-goes_on.false)).0 in
+    record {
+      size = step.0 ∙ c.loop-record.invariant.size;
+      done = replay-on front left (stage_of c.loop-record.state) _ sized some c.handle.ensures good ∙ (rw bytes at c.loop-record.invariant.done);
+      few = omega (arith, rw bytes at c.loop-record.invariant.few, one-passed front left (stage_of c.loop-record.state) _ sized some c.handle.ensures, length-append front left);
+    }
 
-pub returns-else-state-clause-result_after : goal.returns-else-state-clause-result_after
-returns-else-state-clause-result_after c =
-    let left : List ℕ = drop c.loop-at.at c.args.chunk.now in
-    let there : Stage = stage_of c.loop-at.memory c.loop-at.file c.loop-at.buffer c.loop-at.state in
-    let after : Stage = stage_of c.perform-state.new.memory c.receive-received.new.file c.perform-state.new.buffer c.perform-state.result in
-    let more : 0 < length left = rw length-drop (omega arith) in
-    let done : after ≡ handled left (counted there) = let all = le_of_eq (length-drop c.loop-at.at c.args.chunk.now) in
-    c.perform-state.ensures ∙ (rw (take_all _ left all) at (c.receive-received.ensures c.loop-at.memory c.loop-at.buffer)) in
+pub returns-then-not-goes_on-clause-state_after : goal.returns-then-not-goes_on-clause-state_after
+returns-then-not-goes_on-clause-state_after c =
+    let step = c.in-Some.ensures.steps in
+    let bytes = step.1.0 in
+    let sized = rw (c.loop-record.invariant.size, bytes) at step.1.1 in
+    let some = rw bytes at step.1.2 in
     λ ok.
-    let ended = unfailed-bad c.perform-state.result.good c.perform-state.result.output.ok c.if-state.false ok in
-    replay-stop left there after more done ended ∙ c.loop-at.invariant.0
+    let bad = unfailed-bad c.handle.new.self.good c.handle.new.self.output.ok (sym c.goes_on.ensures ∙ c.if-not-goes_on.true) ok in
+    replay-stop c.in-Some.record.now (chunks_rest c.next.new.self) (stage_of c.loop-record.state) _ sized some c.handle.ensures bad ∙ (rw bytes at c.loop-record.invariant.done)
 
-pub returns-else-state-clause-passed_bound : goal.returns-else-state-clause-passed_bound
-returns-else-state-clause-passed_bound c =
-    let left : List ℕ = drop c.loop-at.at c.args.chunk.now in
-    let there : Stage = stage_of c.loop-at.memory c.loop-at.file c.loop-at.buffer c.loop-at.state in
-    let after : Stage = stage_of c.perform-state.new.memory c.receive-received.new.file c.perform-state.new.buffer c.perform-state.result in
-    let more : 0 < length left = rw length-drop (omega arith) in
-    let done : after ≡ handled left (counted there) = let all = le_of_eq (length-drop c.loop-at.at c.args.chunk.now) in
-    c.perform-state.ensures ∙ (rw (take_all _ left all) at (c.receive-received.ensures c.loop-at.memory c.loop-at.buffer)) in
-    let few : c.perform-state.result.passed + (length c.args.chunk.now - (c.loop-at.at + 64))
-    ≤ c.args.state.passed + length c.args.chunk.now = omega (arith, c.loop-at.invariant.1, one-passed left there after more done, c.loop-at-test.true) in
-    omega (arith, few)
+pub returns-then-not-goes_on-clause-passed_bound : goal.returns-then-not-goes_on-clause-passed_bound
+returns-then-not-goes_on-clause-passed_bound c =
+    let step = c.in-Some.ensures.steps in
+    let bytes = step.1.0 in
+    let sized = rw (c.loop-record.invariant.size, bytes) at step.1.1 in
+    let some = rw bytes at step.1.2 in
+    let front = c.in-Some.record.now in
+    let left = chunks_rest c.next.new.self in
+    omega (arith, rw bytes at c.loop-record.invariant.few, one-passed front left (stage_of c.loop-record.state) _ sized some c.handle.ensures, length-append front left)
+
+pub returns-clause-state_after : goal.returns-clause-state_after
+returns-clause-state_after c =
+    λ ok. rw (nil_from_length _ c.in-None.ensures.steps.1.0) at c.loop-record.invariant.done

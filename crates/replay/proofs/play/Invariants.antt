@@ -1,14 +1,15 @@
 -- `replay::play` meets its contract. The loop's invariant: the records that are left do, from here, what all do from the
 -- start. Assumes nothing.
-use Prim.Native.Nat.{◌+◌, ◌-◌, ◌≤◌}
+use Prim.Native.Nat.{◌+◌, ◌≤◌}
 use mathlib.Core.Path.{◌≡◌}
-use lib.ListN.{length, drop}
-use Rattle.replay.specs.Stages.{stage_of, replayed}
+use lib.ListN.{length}
+use Rattle.std.specs.Slice.Iter.{chunks_rest, chunks_size}
+use Rattle.replay.specs.Stages.{record_bytes, stage_of, replayed}
 use Rattle.replay.proofs.play.Given as goal
 
-abbrev pub invariant-loop-at : goal.invariant-loop-at
-invariant-loop-at l = (replayed (drop l.at l.chunk) (stage_of l.memory l.file l.buffer l.state) ≡ replayed l.chunk (stage_of l.initial.memory l.initial.file l.initial.buffer l.initial.state))
-    × (l.state.passed + (length l.chunk - l.at) ≤ l.initial.state.passed + length l.chunk)
-
-abbrev pub decreases-loop-at : goal.decreases-loop-at
-decreases-loop-at l = length l.chunk - l.at
+abbrev pub invariant-loop-record : goal.invariant-loop-record
+invariant-loop-record l = record {
+  size : chunks_size l.record-iterator ≡ record_bytes;
+  done : replayed (chunks_rest l.record-iterator) (stage_of l.state) ≡ replayed l.chunk (stage_of l.initial.state);
+  few : l.state.passed + length (chunks_rest l.record-iterator) ≤ l.initial.state.passed + length l.chunk;
+}

@@ -7,30 +7,21 @@ use Rattle.apportion.proofs.Rounding.{below_half, above_half, at-half, rounded}
 use Rattle.apportion.proofs.nearest.added_by_rounding.Goals as goal
 
 -- what rounding adds makes the quotient the number rounded
-rounds : (q r d : ℕ) {added : ℕ} → added ≡ added_by_rounding q r d
-    → (added ≡ added_by_rounding q r d) × (r < d → q + added ≡ nearest (q * d + r) d)
-rounds q r d e = (e, λ h. ap (λ (n : ℕ). q + n) e ∙ rounded q r d h)
+rounds : (q r d : ℕ) {added : ℕ} → added_by_rounding q r d ≡ added
+    → record { value : added ≡ added_by_rounding q r d; result_value : r < d → q + added ≡ nearest (q * d + r) d }
+rounds q r d e = record { value = sym e; result_value = λ h. ap (λ (n : ℕ). q + n) (sym e) ∙ rounded q r d h }
 
-pub returns-then-remainder-divisor-clause-value : goal.returns-then-remainder-divisor-clause-value
-returns-then-remainder-divisor-clause-value c =
-    (rounds c.args.quotient c.args.remainder c.args.divisor (sym (below_half c.args.quotient c.args.remainder c.args.divisor (omega arith)))).0
+pub returns-then-remainder-divisor : goal.returns-then-remainder-divisor
+returns-then-remainder-divisor c =
+    let a = c.args in
+    rounds a.quotient a.remainder a.divisor (below_half a.quotient a.remainder a.divisor (omega arith))
 
-pub returns-then-remainder-divisor-clause-result_value : goal.returns-then-remainder-divisor-clause-result_value
-returns-then-remainder-divisor-clause-result_value c =
-    (rounds c.args.quotient c.args.remainder c.args.divisor (sym (below_half c.args.quotient c.args.remainder c.args.divisor (omega arith)))).1
+pub returns-then-remainder-divisor-2 : goal.returns-then-remainder-divisor-2
+returns-then-remainder-divisor-2 c =
+    let a = c.args in
+    rounds a.quotient a.remainder a.divisor (above_half a.quotient a.remainder a.divisor (omega arith))
 
-pub returns-then-remainder-divisor-2-clause-value : goal.returns-then-remainder-divisor-2-clause-value
-returns-then-remainder-divisor-2-clause-value c =
-    (rounds c.args.quotient c.args.remainder c.args.divisor (sym (above_half c.args.quotient c.args.remainder c.args.divisor (omega arith)))).0
-
-pub returns-then-remainder-divisor-2-clause-result_value : goal.returns-then-remainder-divisor-2-clause-result_value
-returns-then-remainder-divisor-2-clause-result_value c =
-    (rounds c.args.quotient c.args.remainder c.args.divisor (sym (above_half c.args.quotient c.args.remainder c.args.divisor (omega arith)))).1
-
-pub returns-clause-value : goal.returns-clause-value
-returns-clause-value c =
-    (rounds c.args.quotient c.args.remainder c.args.divisor (sym (at-half c.args.quotient c.args.remainder c.args.divisor (omega arith)))).0
-
-pub returns-clause-result_value : goal.returns-clause-result_value
-returns-clause-result_value c =
-    (rounds c.args.quotient c.args.remainder c.args.divisor (sym (at-half c.args.quotient c.args.remainder c.args.divisor (omega arith)))).1
+pub returns : goal.returns
+returns c =
+    let a = c.args in
+    rounds a.quotient a.remainder a.divisor (at-half a.quotient a.remainder a.divisor (omega arith))

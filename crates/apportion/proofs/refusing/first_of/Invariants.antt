@@ -1,11 +1,9 @@
 -- `apportion::refusing::first_of` meets its contract: the grounds before the place that is reached do not hold. Assumes nothing.
-use Prim.Native.Nat.{◌-◌}
-use lib.ListN.{length}
-use Rattle.apportion.proofs.Grounds.{Passing}
+use mathlib.Core.Path.{◌≡◌}
+use lib.ListN.{drop}
+use Rattle.apportion.specs.Grounds.{first_of}
+use Rattle.apportion.specs.Refusals.{grounds_of}
 use Rattle.apportion.proofs.refusing.first_of.Given as goal
 
-abbrev pub invariant-loop-k : goal.invariant-loop-k
-invariant-loop-k l = Passing l.numbers l.conditions l.k
-
-abbrev pub decreases-loop-k : goal.decreases-loop-k
-decreases-loop-k l = length l.numbers - l.k
+abbrev pub invariant-loop-refusal : goal.invariant-loop-refusal
+invariant-loop-refusal l = first_of (grounds_of l.grounds) ≡ first_of (grounds_of (drop l.refusal-index l.grounds))

@@ -1,6 +1,6 @@
-use mathlib.Core.Path.{◌≡◌, ap}
+use mathlib.Core.Path.{◌≡◌}
 use mathlib.Core.List.{List}
-use Prim.Native.Nat.{ℕ, suc, ◌≤◌}
+use Prim.Native.Nat.{ℕ, suc}
 use native.Mathlib.Omega.{arith}
 use lib.ListN.{length}
 use Rattle.apportion.specs.Places.{at}
@@ -15,10 +15,6 @@ reached-exactly remainders left least e = record {
   above = omega (arith, reach-down (length remainders) (at remainders) least (suc least) (omega arith), e);
   reached = omega arith;
 }
-
-between : (remainders : List ℕ) (left low high : ℕ) → high ≡ suc low → count_at_least remainders high ≤ left
-    → left ≤ count_at_least remainders low → Bound remainders left low
-between remainders left low high e above reached = record { above = omega (arith, ap (count_at_least remainders) e); reached = reached }
 
 pub returns-then-count-left-clause-bound : goal.returns-then-count-left-clause-bound
 returns-then-count-left-clause-bound c =

@@ -1,29 +1,32 @@
--- `book::clearing::fresh` meets its contract: a short slice is left as it is, and any other is cleared and marked.
--- Assumes nothing.
-use lib.ListN.{length}
-use borrow.Author.Tests.{lt-ltb, le-ltb}
+-- `book::clearing::fresh` meets its contract: the words that are filled with 0 are those of `cleared`. Assumes nothing.
+use mathlib.Core.List.{List, [], ◌∷◌, ◌++◌}
+use mathlib.Core.Path.{◌≡◌, refl, ◌∙◌, ap}
+use Prim.Native.Nat.{ℕ, zero, suc, ◌≤◌}
+use native.Mathlib.Numerals.{add-one}
+use native.Mathlib.Omega.{arith}
+use borrow.Author.Tests.{le-ltb}
+use lib.ListN.{length, take, drop, replicate}
+use lib.Seq.{length-take-le}
+use Rattle.std.proofs.lemmas.Grind.{replicate_next}
+use Rattle.apportion.specs.Places.{list_below}
 use Rattle.book_words.specs.Book.{book_length}
-use Rattle.book.specs.Calls.{fresh_book, fresh_refusal}
+use Rattle.book.specs.Calls.{cleared, fresh_book, fresh_refusal}
 use Rattle.book.proofs.clearing.fresh.Goals as goal
 
-pub returns-then-book-lt-BOOK_LENGTH-clause-value : goal.returns-then-book-lt-BOOK_LENGTH-clause-value
-unfolding fresh_book fresh_refusal
-returns-then-book-lt-BOOK_LENGTH-clause-value c =
-    rw (lt-ltb _ _ c.if-book-lt-BOOK_LENGTH.true)
+zeros : (n : ℕ) → replicate n 0 ≡ list_below n (λ k. 0)
+zeros zero = refl
+zeros (suc n) = rw add-one at (replicate_next {X = ℕ} n 0) ∙ ap (λ (l : List ℕ). l ++ (0 ∷ [])) (zeros n)
 
-pub returns-then-book-lt-BOOK_LENGTH-clause-book_after : goal.returns-then-book-lt-BOOK_LENGTH-clause-book_after
-unfolding fresh_book fresh_refusal
-returns-then-book-lt-BOOK_LENGTH-clause-book_after c =
-    rw (lt-ltb (length c.args.book.now) book_length c.if-book-lt-BOOK_LENGTH.true)
-
-pub returns-clause-value : goal.returns-clause-value
-unfolding fresh_book fresh_refusal
-returns-clause-value c =
-    let long = le-ltb (length c.args.book.now) book_length c.if-book-lt-BOOK_LENGTH.false in
-    rw long
+-- the words of a book that are filled with 0, and what comes after them
+clears : (ws new : List ℕ) → book_length ≤ length ws → new ≡ replicate (length (take book_length ws)) 0 → new ++ drop book_length ws ≡ cleared ws
+unfolding cleared
+clears ws new long e =
+    ap (λ (l : List ℕ). l ++ drop book_length ws)
+    (e ∙ ap (λ (n : ℕ). replicate n 0) (length-take-le book_length ws long) ∙ zeros book_length)
 
 pub returns-clause-book_after : goal.returns-clause-book_after
 unfolding fresh_book fresh_refusal
 returns-clause-book_after c =
-    let long = le-ltb (length c.args.book.now) book_length c.if-book-lt-BOOK_LENGTH.false in
-    rw (long, c.clear.ensures)
+    let ws = c.args.book.now in
+    let long : book_length ≤ length ws = omega arith in
+    rw (le-ltb (length ws) book_length long, clears ws c.fill.new.self long (c.fill.ensures.after (λ y e. e)))

@@ -7,32 +7,30 @@ use Rattle.book_words.specs.Book.{most_categories}
 use Rattle.book.specs.Calls.{open_reply, open_book}
 use Rattle.book_words.proofs.SoundTests.{sound-counted}
 use Rattle.book.proofs.AcceptedCalls.{opened}
-use Rattle.book.proofs.TestsAsGrounds.{call-refused, call-accepted}
+use Rattle.book.proofs.TestsAsGrounds.{reply-handed, call-refused, call-accepted}
 use Rattle.book.proofs.opening.open_sound.Goals as goal
 
-pub returns-then-refusal-ne0-clause-value : goal.returns-then-refusal-ne0-clause-value
+pub returns-in_err-check_grounds-clause-value : goal.returns-in_err-check_grounds-clause-value
 unfolding open_reply open_book
-returns-then-refusal-ne0-clause-value c =
-    (call-refused _ [] {old = []} c.refusal_alone.ensures c.refusal_number-refusal.ensures c.if-refusal-ne0.true).0
+returns-in_err-check_grounds-clause-value c =
+    reply-handed _ c.from_residual.result c.from_residual.ensures.1 ∙ (call-refused _ [] c.in_err-check_grounds.field-0.0 {old = []} c.in_err-check_grounds.ensures).0
 
-pub returns-then-refusal-ne0-clause-book_after : goal.returns-then-refusal-ne0-clause-book_after
+pub returns-in_err-check_grounds-clause-book_after : goal.returns-in_err-check_grounds-clause-book_after
 unfolding open_reply open_book
-returns-then-refusal-ne0-clause-book_after c =
-    (call-refused 0 _ c.refusal_alone.ensures c.refusal_number-refusal.ensures c.if-refusal-ne0.true).1
+returns-in_err-check_grounds-clause-book_after c =
+    (call-refused 0 _ c.in_err-check_grounds.field-0.0 c.in_err-check_grounds.ensures).1
 
 pub add_category-requires : goal.add_category-requires
 add_category-requires c =
-    let none = opened c.args.book.now c.args.kind (sym c.refusal_number-refusal.ensures ∙ c.if-refusal-ne0.false) in
+    let none = opened c.args.book.now c.args.kind (sym c.in_ok-check_grounds.ensures) in
     ((sound-counted c.args.book.now c.requires).long, leb-false most_categories _ (none 8))
 
 pub returns-clause-value : goal.returns-clause-value
 unfolding open_reply open_book
 returns-clause-value c =
-    (
-    call-accepted _ [] c.refusal_number-refusal.ensures c.if-refusal-ne0.false (c.add_category.ensures.value, c.add_category.ensures.book_after)).0
+    (call-accepted _ [] c.in_ok-check_grounds.ensures (c.add_category.ensures.value, c.add_category.ensures.book_after)).0
 
 pub returns-clause-book_after : goal.returns-clause-book_after
 unfolding open_reply open_book
 returns-clause-book_after c =
-    (
-    call-accepted _ _ c.refusal_number-refusal.ensures c.if-refusal-ne0.false (c.add_category.ensures.value, c.add_category.ensures.book_after)).1
+    (call-accepted _ _ c.in_ok-check_grounds.ensures (c.add_category.ensures.value, c.add_category.ensures.book_after)).1

@@ -1,12 +1,8 @@
 -- `book::statements::walk` meets its contract: after the first k elements it holds `held_after` of the chain at k. Assumes nothing.
 use mathlib.Core.Path.{◌≡◌}
-use Prim.Native.Nat.{◌-◌, ◌≤◌}
 use Rattle.book.specs.Statements.{of_chain}
 use Rattle.book.specs.Walk.{held_after}
 use Rattle.book.proofs.statements.walk.Given as goal
 
 abbrev pub invariant-loop-passed : goal.invariant-loop-passed
-invariant-loop-passed l = (l.passed ≤ l.count) × (l.held ≡ held_after l.book (of_chain l.chain) l.passed)
-
-abbrev pub decreases-loop-passed : goal.decreases-loop-passed
-decreases-loop-passed l = l.count - l.passed
+invariant-loop-passed l = l.held ≡ held_after l.book (of_chain l.chain) l.passed

@@ -1,6 +1,5 @@
 -- `book::walks::walk_on` meets its contract: the element that was read is the next, and what it adds fits. Assumes nothing.
-use mathlib.Core.Bool.{not}
-use mathlib.Core.Path.{◌≡◌, ◌∙◌, refl, ap}
+use mathlib.Core.Path.{◌≡◌, ◌∙◌, refl, ap, sym}
 use Prim.Native.Nat.{ℕ, ◌+◌, ◌≤◌}
 use native.Mathlib.Omega.{arith}
 use Rattle.apportion.specs.Places.{one_if}
@@ -13,7 +12,6 @@ use Rattle.book.specs.Walk.{held_after}
 use Rattle.book.specs.declared.walks.Held.{Held}
 use Rattle.book_words.proofs.ShareSums.{category-inside}
 use Rattle.book_words.proofs.NumberedRecords.{next-element}
-use Rattle.book.proofs.TestsAsGrounds.{was-true, was-false}
 use Rattle.book.proofs.StatementWalk.{held-other, held-own, held_fits}
 use Rattle.book.proofs.walks.walk_on.Goals as goal
 use Rattle.book.proofs.walks.walk_on.Goals.{Else-not-of_chains}
@@ -33,7 +31,7 @@ added : (c : Else-not-of_chains) {one : ℕ} → one ≡ one_if (waits c.args.bo
     })
     (held_after c.args.book.now (of_chains c.args.first c.args.last) (c.args.passed + 1))
 added c waited =
-    held-own _ _ _ c.requires.held_value (read c) (was-true c.of_chains.ensures (ap not c.if-not-of_chains.false)) waited
+    held-own _ _ _ c.requires.held_value (read c) (sym c.of_chains.ensures ∙ c.if-not-of_chains.false) waited
 
 -- so its counts are within 256, and its sums within 10^18
 fits : (c : Else-not-of_chains) {one : ℕ} → one ≡ one_if (waits c.args.book.now c.numbered_element-e.result)
@@ -48,7 +46,7 @@ fits c waited =
 pub returns-then-not-of_chains : goal.returns-then-not-of_chains
 returns-then-not-of_chains c =
     let next = c.numbered_element-e.ensures ∙ next-element c.args.book.now c.args.passed c.requires.passed_bound in
-    held-other _ _ _ c.requires.held_value next (was-false c.of_chains.ensures (ap not c.if-not-of_chains.true))
+    held-other _ _ _ c.requires.held_value next (sym c.of_chains.ensures ∙ c.if-not-of_chains.true)
 
 pub overflow_add-result : goal.overflow_add-result
 overflow_add-result c = omega (arith, fits (goal.at.overflow_add-result c).Else-not-of_chains refl)

@@ -5,7 +5,7 @@ use Rattle.book_file.specs.Loading.{closing}
 use Rattle.book_file.proofs.TaskLoop.{call-made}
 use Rattle.book_file.proofs.tables.close.Goals as goal
 
-pub returns : goal.returns
-returns c =
+pub returns-clause-book_after : goal.returns-clause-book_after
+returns-clause-book_after c =
     rw (eq-eqb c.args.category.flag 1 c.if-category-ne1.false)
-    (call-made c.args.book.now (closing c.args.number) refl (c.close_sound-refusal.ensures.value, c.close_sound-refusal.ensures.book_after) c.answer_at.ensures)
+    (call-made c.args.book.now.words.now (closing c.args.number) refl (c.close.ensures.value, c.close.ensures.book_after) c.stop_at.ensures)

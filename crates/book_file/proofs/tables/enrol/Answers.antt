@@ -1,30 +1,21 @@
--- `book_file::tables::enrol` meets its contract. Ground 13 comes first; then the call is as
--- `enrol_sound` ensures. Assumes nothing.
+-- `book_file::tables::enrol` meets its contract. past ground 13 the call is as `SoundBook::enrol` ensures. Assumes nothing.
 use mathlib.Core.Bool.{Bool, not, ◌&&◌, ◌||◌}
 use mathlib.Core.Path.{◌≡◌, sym, ap, ◌∙◌}
+use Prim.Native.Nat.{ℕ}
 use lib.Dec.{eqb}
-use Rattle.book_file.specs.Loading.{Task, enrolling}
-use Rattle.book_file.proofs.TaskLoop.{made-broken, counted-made}
+use Rattle.book_words.specs.Measures.{is_passenger}
+use Rattle.book_file.specs.declared.records.ElementRecord.{ElementRecord}
+use Rattle.book_file.specs.Loading.{enrolling}
+use Rattle.book_file.proofs.TaskLoop.{call-made, reply-refusal}
 use Rattle.book_file.proofs.tables.enrol.Goals as goal
 
-pub returns-then-wrong_adjust-element-clause-book_after : goal.returns-then-wrong_adjust-element-clause-book_after
-returns-then-wrong_adjust-element-clause-book_after c =
-    let task : Task = enrolling c.args.number c.args.element in
-    let tested : (not c.is_passenger.result && not (eqb c.args.element.adjust 0))
-    || not (eqb c.args.element.operation 0)
-    || not (eqb c.args.element.provision 0)
-    ≡ (task).broken = let r = c.args.element in
-    ap (λ (b : Bool). (not b && not (eqb r.adjust 0)) || not (eqb r.operation 0) || not (eqb r.provision 0)) c.is_passenger.ensures in
-    sym (made-broken c.args.book.now task (sym tested ∙ c.if-wrong_adjust-element.true))
+-- ground 13 as the code tests it
+tested : (number : ℕ) (r : ElementRecord) {passenger : Bool} → passenger ≡ is_passenger r.code
+    → (not passenger && not (eqb r.adjust 0)) || not (eqb r.operation 0) || not (eqb r.provision 0) ≡ (enrolling number r).broken
+tested number r is = ap (λ (b : Bool). (not b && not (eqb r.adjust 0)) || not (eqb r.operation 0) || not (eqb r.provision 0)) is
 
 pub returns-clause-book_after : goal.returns-clause-book_after
 returns-clause-book_after c =
-    let task : Task = enrolling c.args.number c.args.element in
-    let tested : (not c.is_passenger.result && not (eqb c.args.element.adjust 0))
-    || not (eqb c.args.element.operation 0)
-    || not (eqb c.args.element.provision 0)
-    ≡ (task).broken = let r = c.args.element in
-    ap (λ (b : Bool). (not b && not (eqb r.adjust 0)) || not (eqb r.operation 0) || not (eqb r.provision 0)) c.is_passenger.ensures in
-    (
-    counted-made c.args.book.now task (sym tested ∙ c.if-wrong_adjust-element.false)
-    (c.enrol_sound-counted.ensures.reply_value, (c.enrol_sound-counted.ensures.book_after, c.enrol_sound-counted.ensures.sums_value_2)) c.counted_at.ensures).0
+    call-made c.args.book.now.words.now (enrolling c.args.number c.args.element)
+    (sym (tested c.args.number c.args.element c.is_passenger.ensures) ∙ c.if-wrong_adjust-element.false)
+    (reply-refusal c.enrol.result c.enrol.ensures.value, c.enrol.ensures.book_after) c.stop_at.ensures

@@ -1,14 +1,13 @@
 use mathlib.Core.List.{List}
-use mathlib.Core.Path.{◌≡◌, ◌∙◌, ap, sym}
-use Prim.Native.Nat.{ℕ, ◌+◌}
+use mathlib.Core.Path.{◌≡◌, ◌∙◌, ap, refl, sym}
+use Prim.Native.Nat.{ℕ}
 use native.Mathlib.Omega.{arith}
-use Rattle.apportion.specs.Places.{kept_below}
-use Rattle.book_file.specs.declared.answers.Load.{Load}
+use Rattle.apportion.specs.Refusals.{number_of}
 use Rattle.book_file.specs.declared.answers.Load.TheVariants.{Loaded}
 use Rattle.book_file.specs.declared.header.Section.{Section}
 use Rattle.book_file.specs.declared.tables.Table.{Table}
 use Rattle.book_file.specs.Loading.{Loading, loading_of, is_asked, section_of, task_at, tasks_in, carried_on}
-use Rattle.book_file.proofs.TaskLoop.{through, through-next, through-stopped, carried-stopped, carried-sound}
+use Rattle.book_file.proofs.TaskLoop.{through, through-next, through-stopped, stop-handed}
 use Rattle.book_file.proofs.tables.load_table.Goals as goal
 
 -- what the load has come to at a place of the table
@@ -16,52 +15,46 @@ abbrev reached : List ℕ → List ℕ → Table → ℕ → Loading
 reached book file table n = through (loading_of Loaded book) (is_asked file table) (task_at file table) n
 
 -- what it comes to at the end is what the table's tasks make of it
-whole : (book file : List ℕ) (table : Table) (section : Section) {before : Load} (loading : Loading) → section ≡ section_of file table → before ≡ Loaded
-    → reached book file table section.count ≡ loading → loading ≡ carried_on (loading_of before book) (tasks_in file table)
+whole : (book file : List ℕ) (table : Table) (section : Section) (loading : Loading) → section ≡ section_of file table
+    → reached book file table section.count ≡ loading → loading ≡ carried_on (loading_of Loaded book) (tasks_in file table)
 unfolding tasks_in
-whole book file table section loading is told e =
-    sym e
-    ∙ ap (λ (s : Section). reached book file table s.count) is
-    ∙ ap (λ (answer : Load). carried_on (loading_of answer book) (tasks_in file table)) (sym told)
+whole book file table section loading is e =
+    sym e ∙ ap (λ (s : Section). reached book file table s.count) is
 
-pub returns-in_default-clause-book_after : goal.returns-in_default-clause-book_after
-returns-in_default-clause-book_after c =
-    rw c.in_default.is (sym (carried-stopped c.in_default.field-0 c.in_default.field-1 c.args.book.now (tasks_in c.args.file.now c.args.table)))
+pub loop-place-init : goal.loop-place-init
+loop-place-init c = record { made_so_far = refl; same_words = refl }
 
-pub returns-in_default-answer-clause-book_after : goal.returns-in_default-answer-clause-book_after
-returns-in_default-answer-clause-book_after c =
-    let told = c.in_default-answer.is in
+pub returns-in_err-load_record-clause-book_after : goal.returns-in_err-load_record-clause-book_after
+returns-in_err-load_record-clause-book_after c =
+    let stop = c.in_err-load_record.field-0.0 in
+    let ws = c.args.book.now.words.now in
     let turned =
-    through-next (loading_of Loaded c.args.book.now) (is_asked c.args.file.now c.args.table) (task_at c.args.file.now c.args.table)
-    c.loop-place.place c.loop-place.book c.loop-place.invariant.0
-    ∙ sym c.load_record-reached.ensures.book_after in
-    rw told
-    (whole c.args.book.now c.args.file.now c.args.table c.section_of-section.result _ c.section_of-section.ensures.value c.in-Loaded.is
-    (through-stopped (loading_of Loaded c.args.book.now) (is_asked c.args.file.now c.args.table) (task_at c.args.file.now c.args.table)
-    c.in_default-answer.field-0 c.in_default-answer.field-1 c.load_record-reached.new.book c.loop-place.place c.section_of-section.result.count
-    c.loop-place-test.true
-    (turned ∙ ap (λ (answer : Load). loading_of answer c.load_record-reached.new.book) told)))
+    through-next (loading_of Loaded ws) (is_asked c.args.file.now c.args.table) (task_at c.args.file.now c.args.table)
+    c.loop-place.place c.loop-place.book.words.now c.loop-place.invariant.made_so_far
+    ∙ sym c.in_err-load_record.ensures.book_after in
+    rw (stop-handed stop c.from_residual.result c.from_residual.ensures.1)
+    (whole ws c.args.file.now c.args.table c.section_of-section.result _ c.section_of-section.ensures
+    (through-stopped (loading_of Loaded ws) (is_asked c.args.file.now c.args.table) (task_at c.args.file.now c.args.table)
+    (number_of stop.refusal) stop.place _ c.loop-place.place c.section_of-section.result.count (omega arith) turned))
+
+pub returns-in_err-load_record-clause-same_words : goal.returns-in_err-load_record-clause-same_words
+returns-in_err-load_record-clause-same_words c = c.load_record.ensures.same_words ∙ c.loop-place.invariant.same_words
 
 pub loop-place-preserved : goal.loop-place-preserved
 loop-place-preserved c =
-    let reaches =
-    through-next (loading_of Loaded c.args.book.now) (is_asked c.args.file.now c.args.table) (task_at c.args.file.now c.args.table)
-    c.loop-place.place c.loop-place.book c.loop-place.invariant.0
-    ∙ sym c.load_record-reached.ensures.book_after
-    ∙ ap (λ (answer : Load). loading_of answer c.load_record-reached.new.book) c.in-Loaded-answer.is in
-    let fine =
-    carried-sound (loading_of Loaded c.args.book.now)
-    (kept_below (c.loop-place.place + 1) (is_asked c.args.file.now c.args.table) (task_at c.args.file.now c.args.table))
-    c.requires.book_value in (
-      reaches,
-      rw reaches at fine,
-      omega (arith, c.loop-place-test.true),
-      c.load_record-reached.auto.book ∙ c.loop-place.invariant.3,
-      c.load_record-reached.ensures.sums_value_2,
-    )
+    record {
+      made_so_far =
+          through-next (loading_of Loaded c.args.book.now.words.now) (is_asked c.args.file.now c.args.table) (task_at c.args.file.now c.args.table)
+          c.loop-place.place c.loop-place.book.words.now c.loop-place.invariant.made_so_far
+          ∙ sym c.in_ok-load_record.ensures.book_after;
+      same_words = c.load_record.ensures.same_words ∙ c.loop-place.invariant.same_words;
+    }
 
 pub returns-clause-book_after : goal.returns-clause-book_after
 returns-clause-book_after c =
-    let all : c.loop-place.place ≡ c.section_of-section.result.count = omega (arith, c.loop-place-test.false, c.loop-place.invariant.2) in
-    whole c.args.book.now c.args.file.now c.args.table c.section_of-section.result _ c.section_of-section.ensures.value c.in-Loaded.is
-    (ap (reached c.args.book.now c.args.file.now c.args.table) (sym all) ∙ c.loop-place.invariant.0)
+    let all : c.loop-place.place ≡ c.section_of-section.result.count = omega arith in
+    whole c.args.book.now.words.now c.args.file.now c.args.table c.section_of-section.result _ c.section_of-section.ensures
+    (ap (reached c.args.book.now.words.now c.args.file.now c.args.table) (sym all) ∙ c.loop-place.invariant.made_so_far)
+
+pub returns-clause-same_words : goal.returns-clause-same_words
+returns-clause-same_words c = c.loop-place.invariant.same_words

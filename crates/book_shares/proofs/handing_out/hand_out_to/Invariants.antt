@@ -1,13 +1,8 @@
 -- `book_shares::handing_out::hand_out_to` meets its contract: up to a place in the list the elements have their shares.
 -- Assumes nothing.
-use Prim.Native.Nat.{◌-◌}
-use lib.ListN.{length}
 use Rattle.book_shares.specs.Inner.Steps.{lists_by_side}
 use Rattle.book_shares.proofs.ShareWrites.{Handing}
 use Rattle.book_shares.proofs.handing_out.hand_out_to.Given as goal
 
-abbrev pub invariant-loop-next : goal.invariant-loop-next
-invariant-loop-next l = Handing l.first l.width l.members l.initial.words (lists_by_side l.operation l.provision) l.next l.words
-
-abbrev pub decreases-loop-next : goal.decreases-loop-next
-decreases-loop-next l = length l.members - l.next
+abbrev pub invariant-loop-index : goal.invariant-loop-index
+invariant-loop-index l = Handing l.first l.width l.members l.initial.words (lists_by_side l.operation l.provision) l.index l.words

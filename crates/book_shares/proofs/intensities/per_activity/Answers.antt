@@ -4,5 +4,5 @@ use Rattle.book_shares.proofs.intensities.per_activity.Goals as goal
 
 pub quotient-requires : goal.quotient-requires
 quotient-requires c =
-    rw c.activity_at-total.ensures
-    (c.requires.recipients_nonzero, listed-activity c.args.book.now c.args.members.now c.requires.book_value c.requires.listed c.args.recipients)
+    rw c.activity-total.ensures
+    (c.requires, listed-activity c.args.members.book.now c.args.members.category c.args.members.places.now c.args.members.fine c.args.members.are c.args.recipients)

@@ -1,16 +1,21 @@
+use mathlib.Core.Path.{◌≡◌, ap, ◌∙◌}
+use Prim.Native.Nat.{ℕ, ◌*◌, ◌^◌}
 use native.Mathlib.Omega.{arith}
+use Rattle.apportion.specs.Fractions.{nearest}
+use Rattle.book_words.specs.Inner.Steps.{capped}
 use Rattle.book_shares.proofs.Quotients.{shifting-start, shifting-next, shifting-done}
 use Rattle.book_shares.proofs.intensities.quotient.Goals as goal
 
-pub loop-left-init : goal.loop-left-init
-loop-left-init c =
+pub loop-init : goal.loop-init
+loop-init c =
     shifting-start c.requires.0 c.add-whole.ensures
 
-pub loop-left-preserved : goal.loop-left-preserved
-loop-left-preserved c =
-    shifting-next c.loop-left.invariant c.requires.0 c.loop-left-test.true c.multiply.ensures
-    c.add-whole-in-loop-left.ensures
+pub loop-preserved : goal.loop-preserved
+loop-preserved c =
+    shifting-next c.loop.invariant c.requires.0 c.multiply.ensures c.add-whole-in-loop.ensures
 
 pub returns : goal.returns
 returns c =
-    shifting-done c.loop-left.invariant (omega arith) c.added_by_rounding.ensures.value c.add.ensures
+    let all : c.loop.counter ≡ c.args.tens = omega arith in
+    shifting-done c.loop.invariant c.added_by_rounding.ensures.value c.add.ensures
+    ∙ ap (λ (n : ℕ). capped (nearest (c.args.amount * 10 ^ n) c.args.total)) all

@@ -3,8 +3,5 @@
 use Rattle.book_shares.proofs.Quotients.{Shifting}
 use Rattle.book_shares.proofs.intensities.quotient.Given as goal
 
-abbrev pub invariant-loop-left : goal.invariant-loop-left
-invariant-loop-left l = Shifting l.amount l.tens l.total l.whole l.rest l.left
-
-abbrev pub decreases-loop-left : goal.decreases-loop-left
-decreases-loop-left l = l.left
+abbrev pub invariant-loop : goal.invariant-loop
+invariant-loop l = Shifting l.amount l.total l.whole l.rest l.counter

@@ -14,16 +14,14 @@ use Rattle.book_shares.proofs.previews.put_pairs.Goals as goal
 pub loop-place-preserved : goal.loop-place-preserved
 loop-place-preserved c =
     let ws = c.args.book.now in
-    let place = c.loop-place.place in (
-      omega (arith, c.loop-place-test.true),
-      writing-next c.loop-place.invariant.1 _ _ _ (omega (arith, c.loop-place-test.true, c.requires.pair_words_in_bounds))
-          (ap (λ (e : Element). e.operation) c.numbered_element-e.ensures ∙ held-read ws place Operation)
-          (ap (λ (e : Element). e.provision) c.numbered_element-e.ensures ∙ held-read ws place Provision)
-          c.put_two.ensures,
-    )
+    let place = c.loop-place.place in
+    writing-next c.loop-place.invariant _ _ _ (omega (arith, c.loop-place-test.true, c.requires.pair_words_in_bounds))
+    (ap (λ (e : Element). e.operation) c.numbered_element-e.ensures ∙ held-read ws place Operation)
+    (ap (λ (e : Element). e.provision) c.numbered_element-e.ensures ∙ held-read ws place Provision)
+    c.put_two.ensures
 
 pub returns : goal.returns
 unfolding pairs_of
 returns c =
-    let end : c.loop-place.place ≡ most_elements = omega (arith, c.loop-place.invariant.0, c.loop-place-test.false) in
-    c.loop-place.invariant.1.so_far ∙ ap (λ (n : ℕ). pairs_below n (held_by c.args.book.now) ++ drop (2 * n) c.args.pairs.now) end
+    let end : c.loop-place.place ≡ most_elements = omega arith in
+    c.loop-place.invariant.so_far ∙ ap (λ (n : ℕ). pairs_below n (held_by c.args.book.now) ++ drop (2 * n) c.args.pairs.now) end

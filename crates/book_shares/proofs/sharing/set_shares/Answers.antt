@@ -56,77 +56,62 @@ module _ (ws : List ℕ) (category : ℕ) (side : Side) (places : List ℕ) (are
   held_3 is-q is-p before first second third = held_next (held_2 is-q is-p before first second) (pools_ready is-q).0 third
 
 pub pools_of-pools-requires : goal.pools_of-pools-requires
-pools_of-pools-requires c = (accepted c.args.book.now c.args.category c.args.side c.args.members.now c.requires.members_value c.requires.category_value).fine
+pools_of-pools-requires c = (accepted c.args.members.book.now c.args.members.category c.args.side c.args.members.places.now c.args.members.are c.requires.category_value).fine
 
-pub divide_all-parts-requires-clause-book_value : goal.divide_all-parts-requires-clause-book_value
-divide_all-parts-requires-clause-book_value c = (accepted c.args.book.now c.args.category c.args.side c.args.members.now c.requires.members_value c.requires.category_value).fine
-
-pub divide_all-parts-requires-clause-all_le_most_pool : goal.divide_all-parts-requires-clause-all_le_most_pool
-divide_all-parts-requires-clause-all_le_most_pool c =
-    let k = accepted c.args.book.now c.args.category c.args.side c.args.members.now c.requires.members_value c.requires.category_value in
+pub divide_all-parts-requires : goal.divide_all-parts-requires
+divide_all-parts-requires c =
+    let k = accepted c.args.members.book.now c.args.members.category c.args.side c.args.members.places.now c.args.members.are c.requires.category_value in
     let all = ap (λ (q : Pools). q.all) c.pools_of-pools.ensures in
-    let limit = pool-limited c.args.book.now k.fine c.args.category 0 c.args.side in
-    let some = served-at c.args.book.now c.args.category c.args.members.now c.requires.members_value k.served in
+    let limit = pool-limited c.args.members.book.now k.fine c.args.members.category 0 c.args.side in
+    let some = served-at c.args.members.book.now c.args.members.category c.args.members.places.now c.args.members.are k.served in
     (omega (arith, all, limit), some)
-
-pub add_parts_of-requires-clause-book_value : goal.add_parts_of-requires-clause-book_value
-add_parts_of-requires-clause-book_value c = (accepted c.args.book.now c.args.category c.args.side c.args.members.now c.requires.members_value c.requires.category_value).fine
 
 pub add_parts_of-requires-clause-divisible_over : goal.add_parts_of-requires-clause-divisible_over
 add_parts_of-requires-clause-divisible_over c =
-    (parts_ready c.args.book.now c.args.category c.args.side c.args.members.now c.requires.members_value c.requires.category_value c.pools_of-pools.ensures c.divide_all-parts.ensures).0
-
-pub add_parts_of-requires-2-clause-book_value : goal.add_parts_of-requires-2-clause-book_value
-add_parts_of-requires-2-clause-book_value c = (accepted c.args.book.now c.args.category c.args.side c.args.members.now c.requires.members_value c.requires.category_value).fine
+    (parts_ready c.args.members.book.now c.args.members.category c.args.side c.args.members.places.now c.args.members.are c.requires.category_value c.pools_of-pools.ensures c.divide_all-parts.ensures).0
 
 pub add_parts_of-requires-2-clause-divisible_over : goal.add_parts_of-requires-2-clause-divisible_over
 add_parts_of-requires-2-clause-divisible_over c =
-    (parts_ready c.args.book.now c.args.category c.args.side c.args.members.now c.requires.members_value c.requires.category_value c.pools_of-pools.ensures c.divide_all-parts.ensures).1
+    (parts_ready c.args.members.book.now c.args.members.category c.args.side c.args.members.places.now c.args.members.are c.requires.category_value c.pools_of-pools.ensures c.divide_all-parts.ensures).1
 
 pub add_parts_of-requires-2-clause-by_index : goal.add_parts_of-requires-2-clause-by_index
 add_parts_of-requires-2-clause-by_index c =
     let held =
-    held_1 c.args.book.now c.args.category c.args.side c.args.members.now c.requires.members_value c.requires.category_value c.pools_of-pools.ensures c.divide_all-parts.ensures
-    (held_0 c.args.members.now c.args.shares.now c.requires.shares_len c.requires.by_index)
+    held_1 c.args.members.book.now c.args.members.category c.args.side c.args.members.places.now c.args.members.are c.requires.category_value c.pools_of-pools.ensures c.divide_all-parts.ensures
+    (held_0 c.args.members.places.now c.args.shares.now c.requires.shares_len c.requires.by_index)
     c.add_parts_of.ensures in
     λ k. omega (arith, held.few k)
 
-pub add_parts_of-requires-3-clause-book_value : goal.add_parts_of-requires-3-clause-book_value
-add_parts_of-requires-3-clause-book_value c = (accepted c.args.book.now c.args.category c.args.side c.args.members.now c.requires.members_value c.requires.category_value).fine
-
 pub add_parts_of-requires-3-clause-divisible_over : goal.add_parts_of-requires-3-clause-divisible_over
 add_parts_of-requires-3-clause-divisible_over c =
-    (pools_ready c.args.book.now c.args.category c.args.side c.args.members.now c.requires.members_value c.requires.category_value c.pools_of-pools.ensures).0
+    (pools_ready c.args.members.book.now c.args.members.category c.args.side c.args.members.places.now c.args.members.are c.requires.category_value c.pools_of-pools.ensures).0
 
 pub add_parts_of-requires-3-clause-by_index : goal.add_parts_of-requires-3-clause-by_index
 add_parts_of-requires-3-clause-by_index c =
     let held =
-    held_2 c.args.book.now c.args.category c.args.side c.args.members.now c.requires.members_value c.requires.category_value c.pools_of-pools.ensures c.divide_all-parts.ensures
-    (held_0 c.args.members.now c.args.shares.now c.requires.shares_len c.requires.by_index)
+    held_2 c.args.members.book.now c.args.members.category c.args.side c.args.members.places.now c.args.members.are c.requires.category_value c.pools_of-pools.ensures c.divide_all-parts.ensures
+    (held_0 c.args.members.places.now c.args.shares.now c.requires.shares_len c.requires.by_index)
     c.add_parts_of.ensures c.add_parts_of-2.ensures in
     λ k. omega (arith, held.few k)
 
-pub add_parts_of-requires-4-clause-book_value : goal.add_parts_of-requires-4-clause-book_value
-add_parts_of-requires-4-clause-book_value c = (accepted c.args.book.now c.args.category c.args.side c.args.members.now c.requires.members_value c.requires.category_value).fine
-
 pub add_parts_of-requires-4-clause-divisible_over : goal.add_parts_of-requires-4-clause-divisible_over
 add_parts_of-requires-4-clause-divisible_over c =
-    (pools_ready c.args.book.now c.args.category c.args.side c.args.members.now c.requires.members_value c.requires.category_value c.pools_of-pools.ensures).1
+    (pools_ready c.args.members.book.now c.args.members.category c.args.side c.args.members.places.now c.args.members.are c.requires.category_value c.pools_of-pools.ensures).1
 
 pub add_parts_of-requires-4-clause-by_index : goal.add_parts_of-requires-4-clause-by_index
 add_parts_of-requires-4-clause-by_index c =
     let held =
-    held_3 c.args.book.now c.args.category c.args.side c.args.members.now c.requires.members_value c.requires.category_value c.pools_of-pools.ensures c.divide_all-parts.ensures
-    (held_0 c.args.members.now c.args.shares.now c.requires.shares_len c.requires.by_index)
+    held_3 c.args.members.book.now c.args.members.category c.args.side c.args.members.places.now c.args.members.are c.requires.category_value c.pools_of-pools.ensures c.divide_all-parts.ensures
+    (held_0 c.args.members.places.now c.args.shares.now c.requires.shares_len c.requires.by_index)
     c.add_parts_of.ensures c.add_parts_of-2.ensures c.add_parts_of-3.ensures in
     λ k. omega (arith, held.few k)
 
 pub returns : goal.returns
 returns c =
-    added-four (length c.args.members.now) c.args.shares.now _ _ _ _ _ _ _ _ c.requires.by_index
+    added-four (length c.args.members.places.now) c.args.shares.now _ _ _ _ _ _ _ _ c.requires.by_index
     c.add_parts_of.ensures c.add_parts_of-2.ensures c.add_parts_of-3.ensures c.add_parts_of-4.ensures
-    ∙ shares-added c.args.book.now c.args.category c.args.side c.args.members.now c.requires.members_value
-    (divisions c.args.book.now c.args.category c.args.side (accepted c.args.book.now c.args.category c.args.side c.args.members.now c.requires.members_value c.requires.category_value)) _ _
-    (parts-found c.args.book.now c.args.category c.args.side c.args.members.now c.requires.members_value _ _ c.pools_of-pools.ensures
+    ∙ shares-added c.args.members.book.now c.args.members.category c.args.side c.args.members.places.now c.args.members.are
+    (divisions c.args.members.book.now c.args.members.category c.args.side (accepted c.args.members.book.now c.args.members.category c.args.side c.args.members.places.now c.args.members.are c.requires.category_value)) _ _
+    (parts-found c.args.members.book.now c.args.members.category c.args.side c.args.members.places.now c.args.members.are _ _ c.pools_of-pools.ensures
     c.divide_all-parts.ensures)
     c.pools_of-pools.ensures

@@ -2,14 +2,10 @@
 -- tells of all. Assumes nothing.
 use mathlib.Core.Bool.{true, not}
 use mathlib.Core.Path.{◌≡◌}
-use Prim.Native.Nat.{◌-◌, ◌≤◌}
 use Rattle.book_words.specs.Book.{element_at}
 use Rattle.book_words.specs.Mixture.{is_passenger_in}
 use Rattle.book_words.specs.Soundness.{all_below}
 use Rattle.book_words.proofs.mixture.mixes.Given as goal
 
 abbrev pub invariant-loop-place : goal.invariant-loop-place
-invariant-loop-place l = (l.place ≤ l.count) × (all_below l.place (λ p. not (is_passenger_in l.category (element_at l.book p))) ≡ true)
-
-abbrev pub decreases-loop-place : goal.decreases-loop-place
-decreases-loop-place l = l.count - l.place
+invariant-loop-place l = all_below l.place (λ p. not (is_passenger_in l.category (element_at l.book p))) ≡ true

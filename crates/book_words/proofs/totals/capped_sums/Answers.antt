@@ -1,19 +1,19 @@
-use mathlib.Core.Path.{◌≡◌}
+-- `book_words::totals::capped_sums` meets its contract: it adds one element after the other to the sums of the entries, capped.
+-- Assumes nothing.
+use Rattle.std.proofs.Common.{rules}
 use native.Mathlib.Nat.{add_assoc}
-use native.Mathlib.Omega.{arith}
-use Rattle.book_words.specs.Book.{elements}
-use Rattle.book_words.specs.Totals.{all_unstruck, shares_of, activities}
 use Rattle.apportion.proofs.Sums.{sum-next}
+use Rattle.book_words.specs.Book.{entries, element_at}
+use Rattle.book_words.specs.Inner.Steps.{sums_below, cap_sums}
+use Rattle.book_words.specs.Totals.{with_element, all_unstruck, shares_of, activities}
 use Rattle.book_words.proofs.CappedSums.{capped-add}
+use Rattle.book_words.proofs.Folds.{fold-places}
 use Rattle.book_words.proofs.totals.capped_sums.Goals as goal
-
-pub loop-place-preserved : goal.loop-place-preserved
-loop-place-preserved c =
-    let so_far = c.loop-place.invariant.1 in
-    (omega arith, rw (c.capped_with_element-sums.ensures, c.read_element.ensures, so_far) (simp (capped-add, sum-next, add_assoc)))
 
 pub returns : goal.returns
 unfolding all_unstruck shares_of activities
 returns c =
-    let end : c.loop-place.place ≡ elements c.args.book.now = omega arith in
-    rw end at c.loop-place.invariant.1
+    let ws = c.args.book.now in
+    fold-places (λ sums p. cap_sums (with_element sums (element_at ws p))) (λ n. cap_sums (sums_below ws (entries ws) n))
+    (λ k. simp (capped-add, sum-next, add_assoc))
+    (λ a x b f' k. search rules) c.entry_sums.ensures c.fold.ensures.ran

@@ -2,20 +2,9 @@
 use native.Mathlib.Omega.{arith}
 use Rattle.report.specs.Sheet.{refused_word, refused_text}
 use Rattle.report.proofs.Lines.{refused-fits}
-use Rattle.report.proofs.Stores.{from_front}
 use Rattle.report.proofs.refusals.write_refused.Goals as goal
 
 pub put_word_line-requires : goal.put_word_line-requires
 unfolding refused_text refused_word
 put_word_line-requires c =
     omega (arith, c.requires, refused-fits c.args.number c.args.table c.args.«record»)
-
-pub returns-clause-value : goal.returns-clause-value
-unfolding refused_text refused_word
-returns-clause-value c =
-    (from_front (c.put_word_line.ensures.value, c.put_word_line.ensures.out_after)).0
-
-pub returns-clause-out_after : goal.returns-clause-out_after
-unfolding refused_text refused_word
-returns-clause-out_after c =
-    (from_front (c.put_word_line.ensures.value, c.put_word_line.ensures.out_after)).1

@@ -8,14 +8,14 @@ pub returns-then-negative : goal.returns-then-negative
 returns-then-negative c =
     negative-refused c.args.limit c.args.bits c.if-negative.true (omega arith)
 
-pub returns-then-field-gt1074 : goal.returns-then-field-gt1074
-returns-then-field-gt1074 c =
-    large-refused c.args.limit c.args.bits (omega arith) c.if-negative.false c.if-field-gt1074.true
+pub returns-in-0 : goal.returns-in-0
+returns-in-0 c =
+    c.convert_fraction.ensures ∙ low-converted c.args.limit c.args.bits c.if-negative.false c.in-0.is
 
-pub returns-then-field-eq0 : goal.returns-then-field-eq0
-returns-then-field-eq0 c =
-    c.convert_fraction.ensures ∙ low-converted c.args.limit c.args.bits c.if-negative.false c.if-field-eq0.true
+pub returns-in-1-to-1074 : goal.returns-in-1-to-1074
+returns-in-1-to-1074 c =
+    c.convert_fraction-in-1-to-1074.ensures ∙ converted c.args.limit c.args.bits c.if-negative.false (omega arith) (omega arith)
 
-pub returns : goal.returns
-returns c =
-    c.convert_fraction-2.ensures ∙ converted c.args.limit c.args.bits c.if-negative.false c.if-field-eq0.false c.if-field-gt1074.false
+pub returns-in_default : goal.returns-in_default
+returns-in_default c =
+    large-refused c.args.limit c.args.bits (omega arith) c.if-negative.false (omega arith)

@@ -1,0 +1,5 @@
+-- `replay::state::new` meets its contract. Assumes nothing.
+use Rattle.replay.proofs.state.State.new.Goals as goal
+
+pub returns-clause-value : goal.returns-clause-value
+returns-clause-value c = rw (c.none.ensures, c.new.ensures, c.new-2.ensures.waiting_value)
