@@ -5,8 +5,6 @@ use mathlib.Core.Logic.{⊎_elim}
 use mathlib.Core.List.{List}
 use Prim.Native.Nat.{ℕ, ◌+◌, ◌-◌, ◌*◌, ◌/◌, ◌%◌, ◌^◌, ◌≤◌, ◌<◌}
 use native.Mathlib.Nat.{add-zero, mul-add-div_right, div-eq_of_lt, mul-add-mod_self_right, mod-eq_of_lt}
-use native.Mathlib.Nat.{two-pow-succ}
-use native.Mathlib.Numerals.{add-one}
 use native.Mathlib.Omega.{arith}
 use lib.Pow.{pow_mono}
 use lib.ListN.{length}
@@ -14,10 +12,6 @@ use Rattle.apportion.specs.declared.floors.Division.{Division}
 use Rattle.apportion.specs.Dividing.{most_total}
 use Rattle.apportion.specs.Inner.Products.{Powers, division_at}
 use Rattle.apportion.proofs.Sums.{below_or_not}
-
--- the next power of two, as the code makes it
-pub pow-next : (bit : ℕ) → 2 ^ (bit + 1) ≡ 2 ^ bit + 2 ^ bit
-pow-next bit = rw add-one (two-pow-succ bit)
 
 -- a power of two within a number is below one that is over it
 power_below : (b bit most : ℕ) → 2 ^ b ≤ most → most < 2 ^ bit → b < bit

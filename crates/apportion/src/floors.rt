@@ -96,6 +96,7 @@ impl PowersOfPool {
         ensures remainders_after { remainders.new ≡ list_below (length weights.now) (remainder_at self.now.pool weights.now) }
     {
         let mut left = self.pool;
+        // By index: of a zip over iter_mut the library does not say what was written.
         for (k, &weight) in weights.iter().enumerate() {
             let part = self.times(weight);
             floors[k] = part.quotient;

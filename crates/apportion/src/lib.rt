@@ -63,6 +63,7 @@ fn share_out(pool: u64, total: u64, weights: &[u64], shares: &mut [u64])
         shares.fill(0);
         return;
     }
+    // An array, cut: its length is that of the weights from the start, so a list that grows is no plainer.
     let mut space = [0; MOST_PLACES];
     share_some(pool, total, weights, shares, &mut space[..weights.len()]);
 }

@@ -57,6 +57,7 @@ pub fn add_units(remainders: &[u64], least: u64, left: u64, shares: &mut [u64])
 {
     let equal = left - count_at_least(remainders, least + 1);
     let mut earlier = 0;
+    // By index: of a zip over iter_mut the library does not say what was written.
     for (k, &remainder) in remainders.iter().enumerate() {
         shares[k] += unit_by(remainder, least, earlier, equal);
         earlier += u64::from(remainder == least);

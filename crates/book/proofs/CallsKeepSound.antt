@@ -27,7 +27,7 @@ use Rattle.book_words.proofs.RecordRules.{entry-inside, entry-numbered, element-
 use Rattle.book_words.proofs.RecordsAfterWrite.{struck_entry, EntryStruck, CategoryAdded, EntryAdded, ElementAdded}
 use Rattle.book_words.proofs.Passengers.{mixes-kept, mixed-kept}
 use Rattle.book_words.proofs.SoundRecords.{Balanced, SoundFacts}
-use Rattle.book.proofs.SumsAfterCall.{entries-more, elements-more, entry-sums, element-sums}
+use Rattle.book_words.proofs.SumsAfterWrite.{entries-more, elements-more, entry-sums, element-sums}
 
 -- the categories that were there are there still, and the same
 record Carried (ws ws' : List ℕ) : Type 0 where

@@ -4,7 +4,7 @@ use mathlib.Core.List.{List, [], ◌∷◌}
 use mathlib.Core.Path.{◌≡◌, refl, sym, ap, ◌∙◌}
 use Prim.Native.Nat.{ℕ, ◌+◌}
 use native.Mathlib.Omega.{arith}
-use borrow.Author.Tests.{not-false}
+use borrow.Author.Tests.{not-true, not-false}
 use Rattle.apportion.specs.Grounds.{accepted, Ground, first_of}
 use Rattle.apportion.specs.Inner.Grounds.{grounds_before}
 use Rattle.book_words.specs.Measures.{standard_activity}
@@ -62,11 +62,22 @@ abbrev Answered : ℕ → ℕ → List ℕ → List ℕ → Reply → List ℕ �
 Answered refusal number new old reply after sums =
     (reply ≡ reply_of refusal number) × ((after ≡ accepted refusal new old) × (sums ≡ sums_of after))
 
--- where a record is admitted by the capped sums that it would make, which are `more`, these are the sums of the book that is left
-pub admitted : (more : Sums) {after : Sums} {left new : List ℕ} → after ≡ cap_sums more → true ≡ within_limits after → left ≡ new → sums_of new ≡ more
-    → after ≡ sums_of left
-admitted more is test made sums =
-    is ∙ sums-exact more (sym (test ∙ ap within_limits is ∙ sums-within more)) ∙ sym (ap sums_of made ∙ sums)
+-- a record is refused, or admitted, by the capped sums that it would make, which are `more`
+module _ (more : Sums) (number : ℕ) (new old : List ℕ) {after : Sums} {t : Bool} (is : after ≡ cap_sums more) (test : t ≡ within_limits after) where
+  decided : t ≡ within_limits more
+  decided = test ∙ ap within_limits is ∙ sums-within more
+
+  pub refused-with : {r : Reply} {sums : Sums} → not t ≡ true → r ≡ record { refusal = 10; number = 0 } → sums ≡ sums_of old
+      → Answered (ten_of more) number new old r old sums
+  refused-with past e known =
+      let over = sym decided ∙ not-true t past in
+      (rw over e, (rw over refl, known))
+
+  pub admitted : {r : Reply} {left : List ℕ} → not t ≡ false → (r ≡ reply_of 0 number) × (left ≡ new) → sums_of new ≡ more
+      → Answered (ten_of more) number new old r left after
+  admitted within made sums =
+      let fine = sym decided ∙ not-false t within in
+      (rw fine made.0, (rw fine made.1, is ∙ sums-exact more fine ∙ sym (ap sums_of made.1 ∙ sums)))
 
 -- Past the grounds before 10 the record `made`, which was admitted or not, and the call's record `new` decide alike: the reply and the
 -- book are the call's.

@@ -52,7 +52,8 @@ use Rattle.workbook.specs.Lines.{line_grounds, line_refusal}
 use Rattle.workbook.proofs.Laws.{line-never, line-most}
 use Rattle.book.proofs.LinesAsPosts.{refused-or-posted}
 use Rattle.book.proofs.AcceptedCalls.{struck, opened, posted, unclosed-zero, enrolled, quoted, enrol-measured}
-use Rattle.book.proofs.SumsAfterCall.{category-sums, closing-sums}
+use Rattle.book_words.proofs.SumsAfterWrite.{category-sums}
+use Rattle.book.proofs.SumsAfterCall.{closing-sums}
 use Rattle.book.proofs.CallsKeepSound.{open-keeps, post-keeps, strike-keeps, element-keeps}
 use Rattle.book.proofs.QuotedAmounts.{quote-measured}
 use Rattle.book_shares.proofs.CloseAccepted.{accepted-closing}
@@ -321,6 +322,14 @@ module _ (ws : List ℕ) where
 
   -- statement: what an accepted one answers, and where it is zeros
   module _ (chain : ℕ) where
+    pub statement-unsound : sound ws ≡ false → statement_reply ws chain ≡ zeros_beside 1
+    unfolding statement_reply statement_refusal
+    statement-unsound unsound = rw unsound
+
+    pub statement-unknown : sound ws ≡ true → is_chain chain ≡ false → statement_reply ws chain ≡ zeros_beside 3
+    unfolding statement_reply statement_refusal
+    statement-unknown fine unknown = rw (fine, unknown)
+
     pub statement-accepted : sound ws ≡ true → is_chain chain ≡ true → statement_reply ws chain ≡ statement_of ws chain
     unfolding statement_reply statement_refusal
     statement-accepted fine known = rw (fine, known)

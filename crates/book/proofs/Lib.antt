@@ -1,6 +1,5 @@
 -- What the proofs of the calls share, and the laws of the calls.
 -- the length of a sound book
-pub mod SoundLength
 -- the amounts of a quote
 pub mod QuotedAmounts
 -- a call's tests as the grounds of its definition
@@ -11,7 +10,7 @@ pub mod AcceptedCalls
 pub mod LinesAsPosts
 -- ground 10 by the sums that a record would make
 pub mod GroundTen
--- the sums of ground 10 after a call
+-- the sums of ground 10 after a closing
 pub mod SumsAfterCall
 -- an accepted call leaves a sound book sound
 pub mod CallsKeepSound

@@ -1,27 +1,27 @@
 -- What the tests of a call say as the grounds of its definition. Assumes nothing.
-use mathlib.Core.Bool.{Bool, true, false}
-use mathlib.Core.List.{List}
+use lib.Dec.{eqb}
+use mathlib.Core.Bool.{true, not, ◌||◌}
+use mathlib.Core.List.{List, [], ◌∷◌}
 use mathlib.Core.Path.{◌≡◌, sym, ◌∙◌, refl, ap}
 use Prim.Native.Nat.{ℕ, zero, suc, ◌-◌, ◌<◌}
 use native.Mathlib.Omega.{arith}
-use Rattle.std.proofs.Common.{Result, Ok, Err}
+use Rattle.std.proofs.Common.{Result, Ok, Err, Some}
 use Rattle.std.specs.Result.{IsErrAnd}
 use Rattle.apportion.specs.Grounds.{accepted, first_of}
 use Rattle.apportion.specs.Refusals.{number_of}
 use Rattle.apportion.specs.declared.refusing.Refusal.{Refusal}
-use Rattle.book_words.specs.Book.{entries, entry_at, entry_of, categories}
+use Rattle.book_words.specs.Book.{entries, entry_at, entry_of, categories, category_at, category_of, has_closed}
 use Rattle.book_words.specs.Measures.{between}
-use Rattle.book_words.specs.Inner.Steps.{numbered_entry, numbered_category}
+use Rattle.book_words.specs.Inner.Steps.{numbered}
 use Rattle.book_words.specs.Soundness.{sound, entries_fine, entry_fine}
 use Rattle.book_words.specs.declared.records.Category.{Category}
 use Rattle.book_words.specs.declared.records.Entry.{Entry}
-use Rattle.book.specs.Calls.{strike_grounds_in, strike_grounds, strike_refusal}
+use Rattle.book.specs.Calls.{strike_refusal}
 use Rattle.book.specs.Replies.{refusal_alone, reply_of, reply_in}
-use Rattle.apportion.proofs.Grounds.{grounds_after}
 use Rattle.apportion.proofs.Refusals.{number-some}
 use Rattle.book_words.proofs.EveryPlace.{every-at}
 use Rattle.book_words.proofs.SoundTests.{sound-parts}
-use Rattle.book_words.proofs.NumberedRecords.{sound-grounds}
+use Rattle.book_words.proofs.NumberedRecords.{numbered-some, numbered-there}
 use Rattle.book_words.proofs.Ranges.{between-low, between-high}
 use Rattle.book_words.proofs.RecordRules.{entry-inside}
 
@@ -51,17 +51,19 @@ entry-category ws entry fine inside =
     let place : entry - 1 < entries ws = omega arith in
     entry-inside ws (entry_of ws entry) (every-at (entries ws) (λ p. entry_fine ws (entry_at ws p)) (sound-parts ws fine).all-entries (entry - 1) place)
 
--- the grounds of a strike, by the records that were read
-pub strike-grounds : (ws : List ℕ) (entry : ℕ) {e : Entry} {category : Category} {n : ℕ} → sound ws ≡ true
-    → e ≡ numbered_entry ws entry → category ≡ numbered_category ws e.category
-    → n ≡ first_of (grounds_after 1 (strike_grounds_in ws entry e category))
-    → n ≡ strike_refusal ws entry
-unfolding strike_refusal
-strike-grounds ws entry {e} {category} fine read of is =
-    sound-grounds ws (grounds_after 1 (strike_grounds_in ws entry e category)) fine is ∙ rw (of, read) (go (between 1 (entries ws) entry) refl)
-  where
-    go : (b : Bool) → between 1 (entries ws) entry ≡ b
-        → first_of (strike_grounds_in ws entry (numbered_entry ws entry) (numbered_category ws (numbered_entry ws entry).category))
-        ≡ first_of (strike_grounds ws entry)
-    go true e = rw (e, entry-category ws entry fine e)
-    go false e = rw e
+-- the records that a strike reads: that of the entry, and that of its category
+module _ (ws : List ℕ) (entry : ℕ) {e : Entry} (fine : sound ws ≡ true) (read : numbered (entries ws) (entry_at ws) entry ≡ Some e) where
+  pub struck-category : numbered (categories ws) (category_at ws) e.category ≡ Some (category_of ws e.category)
+  struck-category =
+      let there = numbered-some (entries ws) (entry_at ws) entry read in
+      numbered-there (categories ws) (category_at ws) e.category (rw there.1 (entry-category ws entry fine there.0))
+
+  -- the grounds of a strike by these
+  pub strike-grounds : {category : Category} {n : ℕ} → numbered (categories ws) (category_at ws) e.category ≡ Some category
+      → n ≡ first_of ((4, has_closed category || not (eqb e.struck 0)) ∷ [])
+      → n ≡ strike_refusal ws entry
+  unfolding strike_refusal
+  strike-grounds named is =
+      let there = numbered-some (entries ws) (entry_at ws) entry read in
+      let here = numbered-some (categories ws) (category_at ws) e.category named in
+      rw (fine, there.0) (is ∙ rw (here.1, there.1))

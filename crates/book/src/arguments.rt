@@ -1,4 +1,5 @@
-// The arguments of the calls that take several, each with its name and in its place of documents 01 and 02.
+// The arguments of the calls that take several, each with its name and in its place of documents 01 and 02. Groups and codes are numbers
+// and no enums: a call may be given any, and its grounds judge them.
 use workbook::Line;
 
 #[derive(Clone, Copy)]

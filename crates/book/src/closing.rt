@@ -19,7 +19,7 @@ pub fn close(book: &mut [u64], category: u64) -> Result<(), Refusal>
 }
 
 impl SoundBook<'_> {
-    // The same on a book that is known to be sound.
+    // The same, and the book goes on to other calls.
     pub fn close(&mut self, category: u64) -> Result<(), Refusal>
         ensures value { refusal_in result ≡ close_refusal self.old.words.now category }
         ensures book_after { self.new.words.now ≡ close_book self.old.words.now category }

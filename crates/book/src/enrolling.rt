@@ -1,8 +1,9 @@
 // Enrol: appends an element of a category.
-ghost use Rattle.std.specs.Prelude.{true, ◌≡◌};
+ghost use Rattle.std.specs.Prelude.{true, ◌≡◌, IfOk};
 ghost use Rattle.apportion.specs.Grounds.{first_of};
 ghost use Rattle.apportion.specs.Inner.Grounds.{grounds_before};
 ghost use Rattle.apportion.specs.Refusals.{refusal_in};
+ghost use Rattle.book_words.specs.Book.{category_of};
 ghost use Rattle.book_words.specs.Measures.{is_code};
 ghost use Rattle.book_words.specs.Soundness.{sound};
 ghost use Rattle.book_words.specs.Totals.{sums_of};
@@ -13,7 +14,7 @@ use crate::appending;
 use crate::arguments::EnrolArguments;
 use crate::sound_books::SoundBook;
 use apportion::{Refusal, first_of};
-use book_words::{Category, Element, Sums};
+use book_words::{Category, Element, Record, SoundWords, Sums};
 
 // Enrols an element in a category, and answers its number.
 #[tactic(auto, unfolding(crate::specs::Calls::enrol_refusal, crate::specs::Calls::enrol_reply, crate::specs::Calls::enrol_book))]
@@ -24,11 +25,11 @@ pub fn enrol(book: &mut [u64], e: EnrolArguments) -> Result<u64, Refusal>
     if !book_words::is_sound(book) {
         return Err(Refusal::Unfit);
     }
-    let mut sums = book_words::sums_of(book);
+    let mut sums = SoundWords::of(book).sums();
     enrol_sound(book, &mut sums, e)
 }
 
-// The same on a book that is known to be sound and whose sums are known.
+// The same on a book that is known to be sound and whose sums are known; a free function, as sound_books.rt says.
 fn enrol_sound(book: &mut [u64], sums: &mut Sums, e: EnrolArguments) -> Result<u64, Refusal>
     requires book_value { sound book.old ≡ true }
     requires sums_value { sums.old ≡ sums_of book.old }
@@ -36,13 +37,12 @@ fn enrol_sound(book: &mut [u64], sums: &mut Sums, e: EnrolArguments) -> Result<u
     ensures book_after { book.new ≡ enrol_book book.old e }
     ensures sums_after { sums.new ≡ sums_of book.new }
 {
-    check_grounds(book, e)?;
-    let category = book_words::numbered_category(book, e.category);
-    appending::admit_element(book, sums, enrolled(category, e))
+    let category = check_grounds(&SoundWords::of(book), e)?;
+    appending::admit(book, sums, enrolled(category, e))
 }
 
 impl SoundBook<'_> {
-    // The same.
+    // The same, and the book goes on to other calls.
     pub fn enrol(&mut self, e: EnrolArguments) -> Result<u64, Refusal>
         ensures value { reply_in result ≡ enrol_reply self.old.words.now e }
         ensures book_after { self.new.words.now ≡ enrol_book self.old.words.now e }
@@ -52,31 +52,30 @@ impl SoundBook<'_> {
     }
 }
 
-// The grounds before 10.
-#[tactic(auto, using(crate::proofs::SoundLength::sound_long))]
-fn check_grounds(book: &[u64], e: EnrolArguments) -> Result<(), Refusal>
-    requires { sound book.now ≡ true }
-    ensures { refusal_in result ≡ first_of (grounds_before 10 (enrol_grounds book.now e)) }
+// The grounds before 10. Where none holds, answers the category.
+fn check_grounds(book: &SoundWords, e: EnrolArguments) -> Result<Category, Refusal>
+    ensures refusal { refusal_in result ≡ first_of (grounds_before 10 (enrol_grounds book.now e)) }
+    ensures category { IfOk result (λ here. here ≡ category_of book.now e.category) }
 {
-    let categories = book[book_words::CATEGORIES];
-    let elements = book[book_words::ELEMENTS];
-    let category = book_words::numbered_category(book, e.category);
-    let unnumbered = !((1 <= e.category) & (e.category <= categories));
+    let category = book
+        .numbered::<Category>(e.category)
+        .ok_or(Refusal::Unnumbered)?;
+    let elements = book.count::<Element>();
     let unknown = !(book_words::is_chain(e.chain) & book_words::is_code(e.code));
     let closed = category.closed != 0;
     let unsuited = book_words::unsuited(category.kind, e.code);
-    let mixed = book_words::mixes(book, e.category, e.code, e.kg_per_head);
+    let mixed = book.mixes(e.category, e.code, e.kg_per_head);
     let out_of_range = !enrol_in_range(category, e);
-    let full = book_words::MOST_ELEMENTS <= elements;
+    let full = Element::MOST <= elements;
     first_of(&[
-        (Refusal::Unnumbered, unnumbered),
         (Refusal::Unknown, unknown),
         (Refusal::Closed, closed),
         (Refusal::Unsuited, unsuited),
         (Refusal::Mixed, mixed),
         (Refusal::OutOfRange, out_of_range),
         (Refusal::Full, full),
-    ])
+    ])?;
+    Ok(category)
 }
 
 // The amount, the distance and the kg per head are in range.

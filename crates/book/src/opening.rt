@@ -8,7 +8,7 @@ ghost use Rattle.book.specs.Replies.{reply_in};
 use crate::appending;
 use crate::sound_books::SoundBook;
 use apportion::{Refusal, first_of};
-use book_words::Category;
+use book_words::{Category, Record, SoundWords};
 
 // Opens a category of this kind, and answers its number.
 #[tactic(auto, unfolding(crate::specs::Calls::open_refusal, crate::specs::Calls::open_reply, crate::specs::Calls::open_book))]
@@ -22,18 +22,18 @@ pub fn open(book: &mut [u64], kind: u64) -> Result<u64, Refusal>
     open_sound(book, kind)
 }
 
-// The same on a book that is known to be sound.
+// The same on a book that is known to be sound; a free function, as sound_books.rt says.
 fn open_sound(book: &mut [u64], kind: u64) -> Result<u64, Refusal>
     requires { sound book.old ≡ true }
     ensures value { reply_in result ≡ open_reply book.old kind }
     ensures book_after { book.new ≡ open_book book.old kind }
 {
-    check_grounds(book, kind)?;
-    Ok(appending::add_category(book, Category { kind, closed: 0 }))
+    check_grounds(&SoundWords::of(book), kind)?;
+    Ok(appending::append(book, Category { kind, closed: 0 }))
 }
 
 impl SoundBook<'_> {
-    // The same.
+    // The same, and the book goes on to other calls.
     pub fn open(&mut self, kind: u64) -> Result<u64, Refusal>
         ensures value { reply_in result ≡ open_reply self.old.words.now kind }
         ensures book_after { self.new.words.now ≡ open_book self.old.words.now kind }
@@ -44,13 +44,12 @@ impl SoundBook<'_> {
 }
 
 // The grounds of an opening.
-#[tactic(auto, using(crate::proofs::SoundLength::sound_long))]
-fn check_grounds(book: &[u64], kind: u64) -> Result<(), Refusal>
-    requires { sound book.now ≡ true }
+#[tactic(auto, unfolding(crate::specs::Calls::open_refusal))]
+fn check_grounds(book: &SoundWords, kind: u64) -> Result<(), Refusal>
     ensures { refusal_in result ≡ open_refusal book.now kind }
 {
-    let categories = book[book_words::CATEGORIES];
+    let categories = book.count::<Category>();
     let unknown = !book_words::is_kind(kind);
-    let full = book_words::MOST_CATEGORIES <= categories;
+    let full = Category::MOST <= categories;
     first_of(&[(Refusal::Unknown, unknown), (Refusal::Full, full)])
 }

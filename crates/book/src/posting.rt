@@ -13,7 +13,7 @@ use crate::appending;
 use crate::arguments::PostArguments;
 use crate::sound_books::SoundBook;
 use apportion::{Refusal, first_of};
-use book_words::{Entry, Sums};
+use book_words::{Category, Entry, Record, SoundWords, Sums};
 
 // The largest quantity, 10^12 thousandths of a unit.
 const MOST_QUANTITY: u64 = 1_000_000_000_000;
@@ -30,11 +30,11 @@ pub fn post(book: &mut [u64], p: PostArguments) -> Result<u64, Refusal>
     if !book_words::is_sound(book) {
         return Err(Refusal::Unfit);
     }
-    let mut sums = book_words::sums_of(book);
+    let mut sums = SoundWords::of(book).sums();
     post_sound(book, &mut sums, p)
 }
 
-// The same on a book that is known to be sound and whose sums are known.
+// The same on a book that is known to be sound and whose sums are known; a free function, as sound_books.rt says.
 fn post_sound(book: &mut [u64], sums: &mut Sums, p: PostArguments) -> Result<u64, Refusal>
     requires book_value { sound book.old ≡ true }
     requires sums_value { sums.old ≡ sums_of book.old }
@@ -42,12 +42,12 @@ fn post_sound(book: &mut [u64], sums: &mut Sums, p: PostArguments) -> Result<u64
     ensures book_after { book.new ≡ post_book book.old p }
     ensures sums_after { sums.new ≡ sums_of book.new }
 {
-    check_grounds(book, p)?;
-    appending::admit_entry(book, sums, posted(p))
+    check_grounds(&SoundWords::of(book), p)?;
+    appending::admit(book, sums, posted(p))
 }
 
 impl SoundBook<'_> {
-    // The same.
+    // The same, and the book goes on to other calls.
     pub fn post(&mut self, p: PostArguments) -> Result<u64, Refusal>
         ensures value { reply_in result ≡ post_reply self.old.words.now p }
         ensures book_after { self.new.words.now ≡ post_book self.old.words.now p }
@@ -58,24 +58,21 @@ impl SoundBook<'_> {
 }
 
 // The grounds before 10.
-#[tactic(auto, using(crate::proofs::SoundLength::sound_long))]
-fn check_grounds(book: &[u64], p: PostArguments) -> Result<(), Refusal>
-    requires { sound book.now ≡ true }
+fn check_grounds(book: &SoundWords, p: PostArguments) -> Result<(), Refusal>
     ensures { refusal_in result ≡ first_of (grounds_before 10 (post_grounds book.now p)) }
 {
-    let categories = book[book_words::CATEGORIES];
-    let entries = book[book_words::ENTRIES];
-    let category = book_words::numbered_category(book, p.category);
-    let unnumbered = !((1 <= p.category) & (p.category <= categories));
+    let category = book
+        .numbered::<Category>(p.category)
+        .ok_or(Refusal::Unnumbered)?;
+    let entries = book.count::<Entry>();
     let unknown = !(p.group <= 2);
     let closed = category.closed != 0;
     let unsuited = book_words::unsuited_group(category.kind, p.group);
     let out_of_range = !((p.quantity <= MOST_QUANTITY)
         & (p.operation_factor <= MOST_FACTOR)
         & (p.provision_factor <= MOST_FACTOR));
-    let full = book_words::MOST_ENTRIES <= entries;
+    let full = Entry::MOST <= entries;
     first_of(&[
-        (Refusal::Unnumbered, unnumbered),
         (Refusal::Unknown, unknown),
         (Refusal::Closed, closed),
         (Refusal::Unsuited, unsuited),

@@ -4,6 +4,7 @@ ghost use Rattle.apportion.specs.Refusals.{refusal_in};
 ghost use Rattle.book_shares.specs.Previews.{preview_refusal, preview_pairs};
 
 use apportion::Refusal;
+use book_words::SoundWords;
 
 // Writes what each element would hold after the closing of the category of this number.
 #[tactic(auto, unfolding(book_shares::specs::Previews::preview_refusal, book_shares::specs::Previews::preview_pairs))]
@@ -11,8 +12,6 @@ pub fn preview(book: &[u64], pairs: &mut [u64], category: u64) -> Result<(), Ref
     ensures value { refusal_in result ≡ preview_refusal book.now pairs.old category }
     ensures pairs_after { pairs.new ≡ preview_pairs book.now pairs.old category }
 {
-    if !book_words::is_sound(book) {
-        return Err(Refusal::Unfit);
-    }
-    book_shares::preview_sound(book, pairs, category)
+    let book = SoundWords::tested(book)?;
+    book_shares::preview_sound(&book, pairs, category)
 }

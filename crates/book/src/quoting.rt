@@ -16,7 +16,7 @@ use crate::appending;
 use crate::arguments::QuoteArguments;
 use crate::sound_books::SoundBook;
 use apportion::{Refusal, added_by_rounding, first_of};
-use book_words::{Element, Sums};
+use book_words::{Element, Record, SoundWords, Sums};
 
 // The largest intensity, 10^9 mg per tonne-km.
 const MOST_INTENSITY: u64 = 1_000_000_000;
@@ -33,11 +33,11 @@ pub fn quote(book: &mut [u64], q: QuoteArguments) -> Result<u64, Refusal>
     if !book_words::is_sound(book) {
         return Err(Refusal::Unfit);
     }
-    let mut sums = book_words::sums_of(book);
+    let mut sums = SoundWords::of(book).sums();
     quote_sound(book, &mut sums, q)
 }
 
-// The same on a book that is known to be sound and whose sums are known.
+// The same on a book that is known to be sound and whose sums are known; a free function, as sound_books.rt says.
 fn quote_sound(book: &mut [u64], sums: &mut Sums, q: QuoteArguments) -> Result<u64, Refusal>
     requires book_value { sound book.old ≡ true }
     requires sums_value { sums.old ≡ sums_of book.old }
@@ -45,12 +45,12 @@ fn quote_sound(book: &mut [u64], sums: &mut Sums, q: QuoteArguments) -> Result<u
     ensures book_after { book.new ≡ quote_book book.old q }
     ensures sums_after { sums.new ≡ sums_of book.new }
 {
-    check_grounds(book, q)?;
-    appending::admit_element(book, sums, quoted(q))
+    check_grounds(&SoundWords::of(book), q)?;
+    appending::admit(book, sums, quoted(q))
 }
 
 impl SoundBook<'_> {
-    // The same.
+    // The same, and the book goes on to other calls.
     pub fn quote(&mut self, q: QuoteArguments) -> Result<u64, Refusal>
         ensures value { reply_in result ≡ quote_reply self.old.words.now q }
         ensures book_after { self.new.words.now ≡ quote_book self.old.words.now q }
@@ -61,18 +61,16 @@ impl SoundBook<'_> {
 }
 
 // The grounds before 10.
-#[tactic(auto, using(crate::proofs::SoundLength::sound_long))]
-fn check_grounds(book: &[u64], q: QuoteArguments) -> Result<(), Refusal>
-    requires { sound book.now ≡ true }
+fn check_grounds(book: &SoundWords, q: QuoteArguments) -> Result<(), Refusal>
     ensures { refusal_in result ≡ first_of (grounds_before 10 (quote_grounds book.now q)) }
 {
-    let elements = book[book_words::ELEMENTS];
+    let elements = book.count::<Element>();
     let unknown = !(book_words::is_chain(q.chain) & (q.adjust <= 1));
     let out_of_range = !(book_words::is_mass(q.mass)
         & book_words::is_distance(q.distance)
         & (q.operation_intensity <= MOST_INTENSITY)
         & (q.provision_intensity <= MOST_INTENSITY));
-    let full = book_words::MOST_ELEMENTS <= elements;
+    let full = Element::MOST <= elements;
     first_of(&[
         (Refusal::Unknown, unknown),
         (Refusal::OutOfRange, out_of_range),

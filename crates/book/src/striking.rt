@@ -6,7 +6,7 @@ ghost use Rattle.apportion.specs.Refusals.{refusal_in};
 ghost use Rattle.book.specs.Calls.{strike_refusal, strike_book};
 
 use apportion::{Refusal, first_of};
-use book_words::{ENTRY_LIST, STRUCK_WORD};
+use book_words::{Category, Entry, Record, STRUCK_WORD, SoundWords};
 
 // Strikes the entry of this number.
 #[tactic(auto, unfolding(crate::specs::Calls::strike_refusal, crate::specs::Calls::strike_book))]
@@ -20,13 +20,13 @@ pub fn strike(book: &mut [u64], entry: u64) -> Result<(), Refusal>
     strike_sound(book, entry)
 }
 
-// The same on a book that is known to be sound.
+// The same on a book that is known to be sound; a free function, as sound_books.rt says.
 fn strike_sound(book: &mut [u64], entry: u64) -> Result<(), Refusal>
     requires { sound book.old ≡ true }
     ensures value { refusal_in result ≡ strike_refusal book.old entry }
     ensures book_after { book.new ≡ strike_book book.old entry }
 {
-    check_grounds(book, entry)?;
+    check_grounds(&SoundWords::of(book), entry)?;
     set_struck(book, entry);
     Ok(())
 }
@@ -37,19 +37,17 @@ fn set_struck(book: &mut [u64], entry: u64)
     ensures { book.new ≡ strike_entry book.old entry }
 {
     let place = entry as usize - 1;
-    book[ENTRY_LIST.first + ENTRY_LIST.width * place + STRUCK_WORD] = 1;
+    book[Entry::LIST.first + Entry::LIST.width * place + STRUCK_WORD] = 1;
 }
 
 // The grounds of a strike.
-#[tactic(auto, using(crate::proofs::SoundLength::sound_long))]
-fn check_grounds(book: &[u64], entry: u64) -> Result<(), Refusal>
-    requires { sound book.now ≡ true }
+#[tactic(auto, unfolding(crate::specs::Calls::strike_refusal))]
+fn check_grounds(book: &SoundWords, entry: u64) -> Result<(), Refusal>
     ensures { refusal_in result ≡ strike_refusal book.now entry }
 {
-    let entries = book[book_words::ENTRIES];
-    let e = book_words::numbered_entry(book, entry);
-    let category = book_words::numbered_category(book, e.category);
-    let unnumbered = !((1 <= entry) & (entry <= entries));
+    let e = book.numbered::<Entry>(entry).ok_or(Refusal::Unnumbered)?;
+    // An entry of a sound book is of a category that is there.
+    let category = book.numbered::<Category>(e.category).unwrap();
     let closed = (category.closed != 0) | (e.struck != 0);
-    first_of(&[(Refusal::Unnumbered, unnumbered), (Refusal::Closed, closed)])
+    first_of(&[(Refusal::Closed, closed)])
 }

@@ -1,13 +1,12 @@
 // A walk over the elements: what it holds, and what one element adds. The walks of a statement and of a sheet are made of it.
-ghost use Rattle.std.specs.Prelude.{true, ◌≡◌, ◌+◌, ◌≤◌, ◌<◌};
+ghost use Rattle.std.specs.Prelude.{◌≡◌, ◌+◌, ◌≤◌, ◌<◌};
 ghost use Rattle.apportion.specs.Places.{one_if};
 ghost use Rattle.book_words.specs.Book.{categories, elements};
-ghost use Rattle.book_words.specs.Soundness.{sound};
 ghost use Rattle.book.specs.Inner.Chains.{of_chains};
 ghost use Rattle.book.specs.Statements.{waits};
 ghost use Rattle.book.specs.Walk.{held_after};
 
-use book_words::Element;
+use book_words::{Category, Element, SoundWords};
 
 // What a walk holds, over those of the elements passed that it asks for.
 #[derive(Clone, Copy)]
@@ -29,13 +28,12 @@ pub const NOTHING: Held = Held {
 };
 
 // One element more: what the walk over the elements of the chains from `first` to `last` holds after it.
-pub fn walk_on(book: &[u64], first: u64, last: u64, passed: u64, held: Held) -> Held
-    requires book_value { sound book.now ≡ true }
+pub fn walk_on(book: &SoundWords, first: u64, last: u64, passed: u64, held: Held) -> Held
     requires passed_bound { passed < elements book.now }
     requires held_value { held ≡ held_after book.now (of_chains first last) passed }
     ensures { result ≡ held_after book.now (of_chains first last) (passed + 1) }
 {
-    let e = book_words::numbered_element(book, passed + 1);
+    let e: Element = book.record_at(passed as usize);
     if !of_chains(first, last, e) {
         return held;
     }
@@ -55,11 +53,10 @@ fn of_chains(first: u64, last: u64, e: Element) -> bool
 }
 
 // 1 for an element in an open category, else 0.
-fn waiting_of(book: &[u64], e: Element) -> u64
-    requires book_value { sound book.now ≡ true }
-    requires category_bound { e.category ≤ categories book.now }
+fn waiting_of(book: &SoundWords, e: Element) -> u64
+    requires { e.category ≤ categories book.now }
     ensures { result ≡ one_if (waits book.now e) }
 {
-    let r = book_words::numbered_category(book, e.category);
-    u64::from((e.category != 0) & (r.closed == 0))
+    let here = book.numbered::<Category>(e.category);
+    u64::from(here.is_some_and(|r| r.closed == 0))
 }

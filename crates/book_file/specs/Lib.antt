@@ -4,4 +4,5 @@ pub mod File
 pub mod Answers
 pub mod Loading
 pub mod Conserving
+pub mod Reading
 pub mod Inner

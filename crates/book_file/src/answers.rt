@@ -17,6 +17,7 @@ pub enum Place {
     Closing(u64),
 }
 
+// No Result: document 01 names this form, loaded, or stopped with the refusal number and the place.
 #[derive(Clone, Copy)]
 pub enum Load {
     Loaded,

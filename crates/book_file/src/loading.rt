@@ -10,6 +10,7 @@ use crate::answers::{Load, Place, Stop};
 use crate::tables::Table;
 use crate::{header, tables};
 use book::SoundBook;
+use book_words::SoundWords;
 
 // Loads a file into a book of any words. A load that stops on a record leaves what the calls before it made; one that the
 // header stops leaves the book untouched.
@@ -46,7 +47,7 @@ fn load_records(words: &mut [u64], file: &[u8]) -> Result<(), Stop>
     ensures { loading_of (answer_in result) words.new
         ≡ carried_on (loading_of Loaded words.old) (tasks_of file.now) }
 {
-    let sums = book_words::sums_of(words);
+    let sums = SoundWords::of(words).sums();
     let mut book = SoundBook { words, sums };
     tables::load_table(&mut book, file, Table::Categories)?;
     tables::load_table(&mut book, file, Table::Entries)?;

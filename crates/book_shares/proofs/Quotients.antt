@@ -1,7 +1,7 @@
 -- A quotient that is made ten by ten. Assumes nothing.
 use mathlib.Core.Path.{◌≡◌, ◌∙◌, ap}
 use Prim.Native.Nat.{ℕ, ◌<◌, ◌*◌, ◌+◌, ◌/◌, ◌%◌, ◌^◌}
-use native.Mathlib.Nat.{add-zero, div-add-mod', mod-lt, pow-suc}
+use native.Mathlib.Nat.{div-add-mod', mod-lt, pow-suc}
 use native.Mathlib.Numerals.{add-one}
 use native.Mathlib.Omega.{arith}
 use Rattle.apportion.specs.Fractions.{nearest, added_by_rounding}
@@ -15,13 +15,13 @@ pub record Shifting (amount total whole rest tens : ℕ) : Type 0 where
   pub less : rest < total
   pub whole_is : whole ≡ capped exact
 
-pub shifting-start : {amount total whole : ℕ} → 0 < total → whole ≡ capped (amount / total + 0) → Shifting amount total whole (amount % total) 0
+pub shifting-start : {amount total whole : ℕ} → 0 < total → whole ≡ capped (amount / total) → Shifting amount total whole (amount % total) 0
 shifting-start {amount} {total} {whole} some e =
     record {
       exact = amount / total;
       parts = omega (arith, div-add-mod' amount total);
       less = mod-lt amount some;
-      whole_is = e ∙ ap capped (add-zero (amount / total));
+      whole_is = e;
     }
 
 -- one ten more

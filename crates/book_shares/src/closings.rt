@@ -15,28 +15,29 @@ use crate::pools;
 use crate::sharing::set_shares;
 use crate::weights::{Members, Recipients};
 use apportion::{Refusal, first_of};
-use book_words::{CATEGORY_LIST, CLOSED_WORD, ELEMENT_LIST, OPERATION_SHARE_WORD, Side};
+use book_words::{CLOSED_WORD, Category, Element, OPERATION_SHARE_WORD, Record, Side, SoundWords};
 
-// The first share word of the book.
-const FIRST_SHARE: usize = ELEMENT_LIST.first + OPERATION_SHARE_WORD;
-
-// Closes a category of a book that is known to be sound.
+// Closes a category of a book that is known to be sound. It writes, so a `requires` says it: a part of a `&mut self` that is lent to
+// be read loses what is known of it.
 pub fn close_sound(book: &mut [u64], category: u64) -> Result<(), Refusal>
     requires { sound book.old ≡ true }
     ensures value { refusal_in result ≡ close_refusal book.old category }
     ensures book_after { book.new ≡ close_book book.old category }
 {
-    let places = list_members(book, category);
+    let lent = SoundWords::of(book);
+    let places = list_members(&lent, category);
     let members = places.as_slice();
+    // Arrays, cut: as ArrayVecs, by value, a full sheet costs 65 % more.
     let mut operation = [0u64; 256];
     let operation = &mut operation[..members.len()];
     let mut provision = [0u64; 256];
     let provision = &mut provision[..members.len()];
-    work_out(book, category, members, operation, provision)?;
+    work_out(&lent, category, members, operation, provision)?;
+    let first_share = Element::LIST.first + OPERATION_SHARE_WORD;
     hand_out_to(
         book,
-        FIRST_SHARE,
-        ELEMENT_LIST.width,
+        first_share,
+        Element::LIST.width,
         members,
         operation,
         provision,
@@ -47,7 +48,7 @@ pub fn close_sound(book: &mut [u64], category: u64) -> Result<(), Refusal>
 
 // Works out a closing beside the book: where it is not refused, writes the shares of the listed elements into slices that are 0.
 pub fn work_out(
-    book: &[u64],
+    book: &SoundWords,
     category: u64,
     places: &[u16],
     operation: &mut [u64],
@@ -70,20 +71,17 @@ pub fn work_out(
 }
 
 // The grounds of a closing.
+#[tactic(auto, unfolding(crate::specs::Closing::close_refusal))]
 fn check_grounds(members: Members) -> Result<(), Refusal>
     ensures { refusal_in result ≡ close_refusal members.entry.book.now members.entry.category }
 {
     let Members { book, category, .. } = members;
-    let categories = book[book_words::CATEGORIES];
-    let here = book_words::numbered_category(book, category);
-    let unnumbered = !((1 <= category) & (category <= categories));
+    let here = book
+        .numbered::<Category>(category)
+        .ok_or(Refusal::Unnumbered)?;
     let closed = here.closed != 0;
     let lacking = lacks_elements(members);
-    first_of(&[
-        (Refusal::Unnumbered, unnumbered),
-        (Refusal::Closed, closed),
-        (Refusal::Indivisible, lacking),
-    ])
+    first_of(&[(Refusal::Closed, closed), (Refusal::Indivisible, lacking)])
 }
 
 // There is nothing to divide A by, or a pool of a group is above 0 and no element can take it.
@@ -117,5 +115,5 @@ fn set_closed(book: &mut [u64], category: u64)
     ensures { book.new ≡ close_category book.old category }
 {
     let place = category as usize - 1;
-    book[CATEGORY_LIST.first + CATEGORY_LIST.width * place + CLOSED_WORD] = 1;
+    book[Category::LIST.first + Category::LIST.width * place + CLOSED_WORD] = 1;
 }

@@ -1,10 +1,9 @@
 // Intensity: the emissions of a closed category by its activity.
-ghost use Rattle.std.specs.Prelude.{true, ◌≡◌, ◌<◌, ◌≤◌, ◌*◌, ◌^◌};
+ghost use Rattle.std.specs.Prelude.{◌≡◌, ◌<◌, ◌≤◌, ◌*◌, ◌^◌};
 ghost use Rattle.apportion.specs.Fractions.{nearest};
 ghost use Rattle.apportion.specs.Grounds.{first_of};
 ghost use Rattle.apportion.specs.Refusals.{refusal_in};
 ghost use Rattle.apportion.specs.Inner.Grounds.{grounds_before};
-ghost use Rattle.book_words.specs.Soundness.{sound};
 ghost use Rattle.book_words.specs.Inner.Steps.{most_exact, capped};
 ghost use Rattle.book_shares.specs.Inner.Steps.{scale_tens, Allowed};
 ghost use Rattle.book_shares.specs.Intensities.{lacks_activity, intensity_in, intensity_reply, intensity_grounds, intensity_of};
@@ -14,7 +13,7 @@ use crate::listing::list_members;
 use crate::weights::{Members, Recipients};
 use crate::{pools, sharing};
 use apportion::{Refusal, added_by_rounding, first_of};
-use book_words::Side;
+use book_words::{Category, Side, SoundWords};
 
 // The largest result, 10^15.
 const MOST_RESULT: u64 = 1_000_000_000_000_000;
@@ -26,9 +25,8 @@ pub struct Intensity {
     pub provision: u64,
 }
 
-// The intensity of a category of a book that is known to be sound.
-pub fn intensity_sound(book: &[u64], category: u64, code: u64) -> Result<Intensity, Refusal>
-    requires { sound book.now ≡ true }
+// The intensity of a category.
+pub fn intensity_sound(book: &SoundWords, category: u64, code: u64) -> Result<Intensity, Refusal>
     ensures { intensity_in result ≡ intensity_reply book.now category code }
 {
     check_grounds(book, category, code)?;
@@ -53,20 +51,15 @@ pub fn intensity_sound(book: &[u64], category: u64, code: u64) -> Result<Intensi
 }
 
 // The grounds before 9.
-fn check_grounds(book: &[u64], category: u64, code: u64) -> Result<(), Refusal>
-    requires { sound book.now ≡ true }
+fn check_grounds(book: &SoundWords, category: u64, code: u64) -> Result<(), Refusal>
     ensures { refusal_in result ≡ first_of (grounds_before 9 (intensity_grounds book.now category code)) }
 {
-    let categories = book[book_words::CATEGORIES];
-    let here = book_words::numbered_category(book, category);
-    let unnumbered = !((1 <= category) & (category <= categories));
+    let here = book
+        .numbered::<Category>(category)
+        .ok_or(Refusal::Unnumbered)?;
     let unknown = !((code <= 2) | (code == 100));
     let unclosed = !(here.closed != 0);
-    first_of(&[
-        (Refusal::Unnumbered, unnumbered),
-        (Refusal::Unknown, unknown),
-        (Refusal::StillOpen, unclosed),
-    ])
+    first_of(&[(Refusal::Unknown, unknown), (Refusal::StillOpen, unclosed)])
 }
 
 // F, S or C of the intensity is 0.
@@ -90,7 +83,8 @@ fn result(members: Members, code: u64, side: Side) -> u64
     if code == 100 {
         return per_activity(members, Recipients::Passengers, parts.passengers, 2);
     }
-    let tens = scale_tens(book_words::numbered_category(members.book, members.category).kind);
+    let here: Category = members.book.numbered(members.category).unwrap();
+    let tens = scale_tens(here.kind);
     let freight = per_activity(members, Recipients::Freight, parts.freight, tens);
     if code == 0 {
         return freight;
@@ -127,8 +121,7 @@ fn quotient(amount: u64, tens: u64, total: u64) -> u64
     requires { (0 < total) × (total ≤ most_exact) }
     ensures { result ≡ capped (nearest (amount * 10 ^ tens) total) }
 {
-    // Adding 0 caps it.
-    let mut whole = book_words::add(amount / total, 0);
+    let mut whole = book_words::capped(amount / total);
     let mut rest = amount % total;
     for _ in 0..tens {
         rest *= 10;

@@ -1,10 +1,9 @@
 // The pools of a category: A, B1 and B2.
-ghost use Rattle.std.specs.Prelude.{true, ◌≡◌};
-ghost use Rattle.book_words.specs.Soundness.{sound};
+ghost use Rattle.std.specs.Prelude.{◌≡◌};
 ghost use Rattle.book_shares.specs.Sums.{in_group};
 ghost use Rattle.book_shares.specs.Inner.Steps.{pools_with, pools_by, group_pool};
 
-use book_words::{Entry, Side};
+use book_words::{Entry, Side, SoundWords};
 
 // The three pools of a category, on one side.
 #[derive(Clone, Copy)]
@@ -44,18 +43,17 @@ fn pools_with(pools: Pools, category: u64, side: Side, e: Entry) -> Pools
 }
 
 // The unstruck entries of the category: A of group 0, B1 and B2 of groups 1 and 2.
-pub fn pools_of(book: &[u64], category: u64, side: Side) -> Pools
-    requires { sound book.now ≡ true }
+pub fn pools_of(book: &SoundWords, category: u64, side: Side) -> Pools
     ensures { result ≡ pools_by book.now category side }
 {
-    let count = book[book_words::ENTRIES];
+    let count = book.count::<Entry>();
     let mut pools = Pools {
         all: 0,
         chilled: 0,
         frozen: 0,
     };
     for passed in 0..count {
-        let e = book_words::numbered_entry(book, passed + 1);
+        let e: Entry = book.record_at(passed as usize);
         pools = pools_with(pools, category, side, e);
     }
     pools

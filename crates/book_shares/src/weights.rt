@@ -2,14 +2,13 @@
 // category, by their places.
 ghost use Rattle.std.specs.Prelude.{true, ◌≡◌, ◌<◌, length};
 ghost use Rattle.apportion.specs.Places.{at};
-ghost use Rattle.book_words.specs.Book.{elements, element_at};
 ghost use Rattle.book_words.specs.Soundness.{sound};
 ghost use Rattle.book_words.specs.Inner.Steps.{capped};
 ghost use Rattle.book_shares.specs.declared.weights.Measure.TheVariants.{Activity, Mass};
 ghost use Rattle.book_shares.specs.Inner.Members.{members as members_of, measure_of, weights_at, sum_at, activity_at, mass_at};
 ghost use Rattle.book_shares.specs.Sums.{receives};
 
-use book_words::Element;
+use book_words::{Element, SoundWords};
 
 // The elements that a pool goes to.
 #[derive(Clone, Copy)]
@@ -67,27 +66,18 @@ fn capped_measure(measure: Measure, e: Element) -> u64
     ensures { result ≡ capped (measure_of measure e) }
 {
     match measure {
-        // Adding 0 caps it.
-        Measure::Activity(recipients) => book_words::add(weight_of(recipients, e), 0),
+        Measure::Activity(recipients) => book_words::capped(weight_of(recipients, e)),
         Measure::Mass => capped_mass(e),
     }
 }
 
-// The element at this place.
-fn element(book: &[u64], place: u16) -> Element
-    requires book_value { sound book.now ≡ true }
-    requires place_in_bounds { place < elements book.now }
-    ensures { result ≡ element_at book.now place }
-{
-    book_words::numbered_element(book, u64::from(place) + 1)
-}
-
-// The elements of a category in a sound book, by their places.
+// The elements of a category, by their places.
 #[derive(Clone, Copy)]
 pub struct Members<'a> {
-    pub book: &'a [u64],
+    pub book: &'a SoundWords<'a>,
     pub category: u64,
     pub places: &'a [u16],
+    // As the type of the book says: a clause sees its words alone.
     ghost fine: { sound book.now ≡ true },
     ghost are: { places.now ≡ members_of book.now category },
 }
@@ -98,8 +88,12 @@ impl<'a> Members<'a> {
         requires { length weights.old ≡ length self.places.now }
         ensures { weights.new ≡ weights_at self.entry.book.now self.entry.places.now recipients }
     {
+        // By index: of a zip over iter_mut the library does not say what was written.
         for (index, weight) in weights.iter_mut().enumerate() {
-            *weight = weight_of(recipients, element(self.book, self.places[index]));
+            *weight = weight_of(
+                recipients,
+                self.book.record_at(usize::from(self.places[index])),
+            );
         }
     }
 
@@ -109,7 +103,10 @@ impl<'a> Members<'a> {
     {
         let mut sum = 0;
         for place in self.places {
-            sum = book_words::add(sum, capped_measure(measure, element(self.book, *place)));
+            sum = book_words::add(
+                sum,
+                capped_measure(measure, self.book.record_at(usize::from(*place))),
+            );
         }
         sum
     }

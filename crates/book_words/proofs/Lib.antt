@@ -23,6 +23,8 @@ pub mod SoundRecords
 pub mod NumberedRecords
 -- records that are the same in two books, and the sums over them
 pub mod SameRecords
+-- the sums of ground 10 over a book with one record more
+pub mod SumsAfterWrite
 -- sums by keys
 pub mod SumsByKey
 -- the shares of a sound book, by categories and by chains

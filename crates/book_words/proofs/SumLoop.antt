@@ -1,5 +1,5 @@
 -- A sum that a loop adds up over the places of a list, capped. Assumes nothing.
-use mathlib.Core.Path.{◌≡◌, ap, refl, ◌∙◌}
+use mathlib.Core.Path.{◌≡◌, ap, ◌∙◌}
 use Prim.Native.Nat.{ℕ, ◌≤◌, ◌<◌, ◌+◌}
 use native.Mathlib.Omega.{arith}
 use Rattle.apportion.specs.Places.{sum_below}
@@ -11,9 +11,6 @@ use Rattle.book_words.proofs.CappedSums.{capped-add}
 pub record Adding (n k sum : ℕ) (f : ℕ → ℕ) : Type 0 where
   pub inside : k ≤ n
   pub so_far : sum ≡ capped (sum_below k f)
-
-pub adding-start : (n : ℕ) (f : ℕ → ℕ) → Adding n 0 0 f
-adding-start n f = record { inside = omega arith; so_far = refl }
 
 pub adding-next : {n k sum : ℕ} {f : ℕ → ℕ} (next : ℕ) → Adding n k sum f → k < n → next ≡ capped (sum + f k) → Adding n (k + 1) next f
 adding-next {n} {k} {sum} {f} next a h e = record { inside = omega arith; so_far = e ∙ rw (a.so_far, sum-next k f) (capped-add (sum_below k f) (f k)) }

@@ -5,6 +5,7 @@
 mod measures;
 mod mixture;
 mod records;
+mod sound_words;
 mod soundness;
 mod totals;
 
@@ -12,13 +13,12 @@ pub use measures::{
     MOST_CHAINS, activity, is_amount, is_chain, is_code, is_distance, is_distance_in,
     is_kg_per_head, is_kind, is_mass, is_passenger, mass_per_head, unsuited, unsuited_group,
 };
-pub use mixture::mixes;
 pub use records::{
-    BOOK_LENGTH, CATEGORIES, CATEGORY_LIST, CLOSED_WORD, Category, ELEMENT_LIST, ELEMENTS, ENTRIES,
-    ENTRY_LIST, Element, Entry, Layout, MARK, MOST_CATEGORIES, MOST_ELEMENTS, MOST_ENTRIES,
-    OPERATION_SHARE_WORD, PROVISION_SHARE_WORD, STRUCK_WORD,
+    BOOK_LENGTH, CATEGORIES, CLOSED_WORD, Category, ELEMENTS, ENTRIES, Element, Entry, Layout,
+    MARK, OPERATION_SHARE_WORD, PROVISION_SHARE_WORD, Record, STRUCK_WORD,
 };
-pub use soundness::{is_sound, numbered_category, numbered_element, numbered_entry};
+pub use sound_words::SoundWords;
+pub use soundness::is_sound;
 pub use totals::{
-    Side, Sums, add, are_within, capped_with_element, capped_with_entry, multiply, sums_of,
+    Side, Sums, add, are_within, capped, capped_with_element, capped_with_entry, multiply,
 };

@@ -5,29 +5,11 @@ ghost use Rattle.book_words.specs.Inner.Steps.{CountsWithin};
 ghost use Rattle.book_words.specs.Mixture.{mixes};
 ghost use Rattle.book_words.specs.Soundness.{sound, elements_fine, passengers_fine};
 
+use crate::records::{Category, Element, Record};
 use crate::{measures, records};
 
 // The numbers of categories, from 0 to the most.
-const NUMBERS: usize = records::MOST_CATEGORIES as usize + 1;
-
-// An element of this category, code and kg per head would come behind passengers of its category that are
-// weighed where it is not, or the reverse. In a sound book these are alike, and the first of them tells.
-#[tactic(auto, unfolding(crate::specs::Mixture::mixes))]
-pub fn mixes(book: &[u64], category: u64, code: u64, kg_per_head: u64) -> bool
-    requires { sound book.now ≡ true }
-    ensures { result ≡ mixes book.now (elements book.now) category code kg_per_head }
-{
-    if !measures::is_passenger(code) {
-        return false;
-    }
-    for place in 0..book[records::ELEMENTS] as usize {
-        let r = records::read_element(book, place);
-        if measures::is_passenger(r.code) && r.category == category {
-            return measures::is_weighed(r.kg_per_head) != measures::is_weighed(kg_per_head);
-        }
-    }
-    false
-}
+const NUMBERS: usize = Category::MOST as usize + 1;
 
 // No element mixes with those before it: of each category it is remembered whether the passengers seen so far are
 // weighed.
@@ -39,7 +21,7 @@ pub fn passengers_fine(book: &[u64]) -> bool
     let count = book[records::ELEMENTS] as usize;
     let mut seen = [None; NUMBERS];
     for place in 0..count {
-        let r = records::read_element(book, place);
+        let r = Element::read(book, place);
         if measures::is_passenger(r.code) {
             let weighed = measures::is_weighed(r.kg_per_head);
             let known = &mut seen[r.category as usize];

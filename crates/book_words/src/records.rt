@@ -1,6 +1,11 @@
-// The layout of a book, and its records, each read from its words.
-ghost use Rattle.std.specs.Prelude.{◌≡◌, ◌≤◌, ◌<◌, length};
-ghost use Rattle.book_words.specs.Book.{book_length, most_categories, category_at, most_entries, entry_at, most_elements, element_at};
+// The layout of a book, and its records, each read from its words and written as them.
+ghost use Rattle.std.specs.Prelude.{true, ◌≡◌, ◌≤◌, ◌<◌, ◌+◌, ◌*◌, ℕ, List, length};
+ghost use Rattle.std.proofs.Common.{rules, refl};
+ghost use Rattle.book_words.specs.Book.{book_length, count_of, start_of, category_list, most_categories, category_at, category_words};
+ghost use Rattle.book_words.specs.Book.{entry_list, most_entries, entry_at, entry_words, element_list, most_elements, element_at, element_words};
+ghost use Rattle.book_words.specs.Inner.Steps.{CountsWithin, numbered};
+ghost use Rattle.book_words.specs.Soundness.{sound};
+ghost use Rattle.book_words.specs.declared.records.Layout.{Layout};
 
 // The words of a book.
 pub const BOOK_LENGTH: usize = 2660;
@@ -26,24 +31,6 @@ pub struct Layout {
     pub width: usize,
 }
 
-pub const CATEGORY_LIST: Layout = Layout {
-    counter: CATEGORIES,
-    first: 4,
-    width: 2,
-};
-
-pub const ENTRY_LIST: Layout = Layout {
-    counter: ENTRIES,
-    first: 36,
-    width: 5,
-};
-
-pub const ELEMENT_LIST: Layout = Layout {
-    counter: ELEMENTS,
-    first: 356,
-    width: 9,
-};
-
 // The words that have a name, each counted from the start of its record.
 pub const CLOSED_WORD: usize = 1;
 
@@ -55,13 +42,7 @@ pub const OPERATION_SHARE_WORD: usize = 6;
 
 pub const PROVISION_SHARE_WORD: usize = 7;
 
-// The most records of each list.
-pub const MOST_CATEGORIES: u64 = 16;
-
-pub const MOST_ENTRIES: u64 = 64;
-
-pub const MOST_ELEMENTS: u64 = 256;
-
+// Kinds, groups, codes and marks are numbers and no enums: the words of a book may be any, and the test of soundness judges them.
 #[derive(Clone, Copy)]
 pub struct Category {
     // 1 freight, 2 passengers, 3 both, 4 freight hub.
@@ -94,45 +75,169 @@ pub struct Element {
     pub kg_per_head: u64,
 }
 
-pub fn read_category(book: &[u64], place: usize) -> Category
-    requires { (book_length ≤ length book.now) × (place < most_categories) }
-    ensures { result ≡ category_at book.now place }
-{
-    let at = CATEGORY_LIST.first + CATEGORY_LIST.width * place;
-    Category {
-        kind: book[at],
-        closed: book[at + CLOSED_WORD],
-    }
+// A record of one of the lists.
+pub trait Record: Copy {
+    ghost LIST: { Layout };
+
+    ghost MOST: { ℕ };
+
+    ghost record_at: { List ℕ → ℕ → Self };
+
+    ghost words_of: { Self → List ℕ };
+
+    // Where its list is, and the most records of it.
+    const LIST: Layout;
+
+    const MOST: u64;
+
+    // The record at this place.
+    fn read(book: &[u64], place: usize) -> Self
+        requires { (book_length ≤ length book.now) × (place < MOST) }
+        ensures { result ≡ record_at book.now place };
+
+    // Writes the words of the record.
+    fn write(self, words: &mut [u64])
+        requires { length words.old ≡ LIST.width }
+        ensures { words.new ≡ words_of self };
+
+    // Its list is counted within the most records, and they are within the book.
+    ghost counted: { (ws : List ℕ) → CountsWithin ws → count_of ws LIST ≤ MOST };
+
+    ghost inside: { (LIST.counter < LIST.first) × (start_of LIST MOST ≤ book_length) × (MOST ≤ most_elements) };
+
+    ghost width: { (r : Self) → length (words_of r) ≡ LIST.width };
 }
 
-pub fn read_entry(book: &[u64], place: usize) -> Entry
-    requires { (book_length ≤ length book.now) × (place < most_entries) }
-    ensures { result ≡ entry_at book.now place }
-{
-    let at = ENTRY_LIST.first + ENTRY_LIST.width * place;
-    Entry {
-        category: book[at],
-        group: book[at + 1],
-        operation: book[at + 2],
-        provision: book[at + 3],
-        struck: book[at + STRUCK_WORD],
+impl Record for Category {
+    ghost LIST = { category_list };
+
+    ghost MOST = { most_categories };
+
+    ghost record_at = { category_at };
+
+    ghost words_of = { category_words };
+
+    const LIST: Layout = Layout {
+        counter: CATEGORIES,
+        first: 4,
+        width: 2,
+    };
+
+    const MOST: u64 = 16;
+
+    fn read(book: &[u64], place: usize) -> Category {
+        let at = Self::LIST.first + Self::LIST.width * place;
+        Category {
+            kind: book[at],
+            closed: book[at + CLOSED_WORD],
+        }
     }
+
+    fn write(self, words: &mut [u64]) {
+        words.copy_from_slice(&[self.kind, self.closed]);
+    }
+
+    ghost counted = { λ ws counts. counts.categories_most };
+
+    ghost inside = { Prim.search rules };
+
+    ghost width = { λ r. refl };
 }
 
-pub fn read_element(book: &[u64], place: usize) -> Element
-    requires { (book_length ≤ length book.now) × (place < most_elements) }
-    ensures { result ≡ element_at book.now place }
-{
-    let at = ELEMENT_LIST.first + ELEMENT_LIST.width * place;
-    Element {
-        category: book[at],
-        chain: book[at + CHAIN_WORD],
-        code: book[at + 2],
-        amount: book[at + 3],
-        distance: book[at + 4],
-        activity: book[at + 5],
-        operation: book[at + OPERATION_SHARE_WORD],
-        provision: book[at + PROVISION_SHARE_WORD],
-        kg_per_head: book[at + 8],
+impl Record for Entry {
+    ghost LIST = { entry_list };
+
+    ghost MOST = { most_entries };
+
+    ghost record_at = { entry_at };
+
+    ghost words_of = { entry_words };
+
+    const LIST: Layout = Layout {
+        counter: ENTRIES,
+        first: 36,
+        width: 5,
+    };
+
+    const MOST: u64 = 64;
+
+    fn read(book: &[u64], place: usize) -> Entry {
+        let at = Self::LIST.first + Self::LIST.width * place;
+        Entry {
+            category: book[at],
+            group: book[at + 1],
+            operation: book[at + 2],
+            provision: book[at + 3],
+            struck: book[at + STRUCK_WORD],
+        }
     }
+
+    fn write(self, words: &mut [u64]) {
+        words.copy_from_slice(&[
+            self.category,
+            self.group,
+            self.operation,
+            self.provision,
+            self.struck,
+        ]);
+    }
+
+    ghost counted = { λ ws counts. counts.entries_most };
+
+    ghost inside = { Prim.search rules };
+
+    ghost width = { λ r. refl };
+}
+
+impl Record for Element {
+    ghost LIST = { element_list };
+
+    ghost MOST = { most_elements };
+
+    ghost record_at = { element_at };
+
+    ghost words_of = { element_words };
+
+    const LIST: Layout = Layout {
+        counter: ELEMENTS,
+        first: 356,
+        width: 9,
+    };
+
+    const MOST: u64 = 256;
+
+    fn read(book: &[u64], place: usize) -> Element {
+        let at = Self::LIST.first + Self::LIST.width * place;
+        Element {
+            category: book[at],
+            chain: book[at + CHAIN_WORD],
+            code: book[at + 2],
+            amount: book[at + 3],
+            distance: book[at + 4],
+            activity: book[at + 5],
+            operation: book[at + OPERATION_SHARE_WORD],
+            provision: book[at + PROVISION_SHARE_WORD],
+            kg_per_head: book[at + 8],
+        }
+    }
+
+    fn write(self, words: &mut [u64]) {
+        words.copy_from_slice(&[
+            self.category,
+            self.chain,
+            self.code,
+            self.amount,
+            self.distance,
+            self.activity,
+            self.operation,
+            self.provision,
+            self.kg_per_head,
+        ]);
+    }
+
+    ghost counted = { λ ws counts. counts.elements_most };
+
+    ghost inside = { Prim.search rules };
+
+    ghost width = { λ r. refl };
 }

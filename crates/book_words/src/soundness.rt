@@ -3,11 +3,11 @@
 ghost use Rattle.std.specs.Prelude.{true, ◌≡◌, ◌<◌};
 ghost use Rattle.book_words.specs.Book.{most_entries, entry_at, most_elements, element_at, most_categories};
 ghost use Rattle.book_words.specs.Measures.{is_code};
-ghost use Rattle.book_words.specs.Inner.Steps.{numbered_category, numbered_entry, numbered_element, CountsWithin, Limited, ReadyFor, count_in, record_fine};
+ghost use Rattle.book_words.specs.Inner.Steps.{CountsWithin, Limited, ReadyFor, count_in, record_fine};
 ghost use Rattle.book_words.specs.Soundness.{sound, header_fine, category_fine, entry_fine, entry_suits, sums_fine, shares_fine};
 ghost use Rattle.book_words.specs.Soundness.{element_fine, quoted_suits, element_suits, measured, shares_wait};
 
-use crate::records::{Category, Element, Entry};
+use crate::records::{Category, Element, Entry, Record};
 use crate::{measures, mixture, records, totals};
 
 // The largest amount of an entry, 10^18 µg.
@@ -36,7 +36,7 @@ const LISTS: [List; 7] = [
     List::Closings,
 ];
 
-// The book is sound: the first bad record decides, and the label is left with it.
+// The book is sound: the first bad record decides, and the label is left with it, with a flag, as document 01 wants it here.
 pub fn is_sound(book: &[u64]) -> bool
     ensures { result ≡ sound book.now }
 {
@@ -53,55 +53,6 @@ pub fn is_sound(book: &[u64]) -> bool
     good
 }
 
-// The category of this number, or zeros where there is none.
-pub fn numbered_category(book: &[u64], number: u64) -> Category
-    requires { sound book.now ≡ true }
-    ensures { result ≡ numbered_category book.now number }
-{
-    if (1 <= number) & (number <= book[records::CATEGORIES]) {
-        return records::read_category(book, number as usize - 1);
-    }
-    Category { kind: 0, closed: 0 }
-}
-
-// The entry of this number, or zeros where there is none.
-pub fn numbered_entry(book: &[u64], number: u64) -> Entry
-    requires { sound book.now ≡ true }
-    ensures { result ≡ numbered_entry book.now number }
-{
-    if (1 <= number) & (number <= book[records::ENTRIES]) {
-        return records::read_entry(book, number as usize - 1);
-    }
-    Entry {
-        category: 0,
-        group: 0,
-        operation: 0,
-        provision: 0,
-        struck: 0,
-    }
-}
-
-// The element of this number, or zeros where there is none.
-pub fn numbered_element(book: &[u64], number: u64) -> Element
-    requires { sound book.now ≡ true }
-    ensures { result ≡ numbered_element book.now number }
-{
-    if (1 <= number) & (number <= book[records::ELEMENTS]) {
-        return records::read_element(book, number as usize - 1);
-    }
-    Element {
-        category: 0,
-        chain: 0,
-        code: 0,
-        amount: 0,
-        distance: 0,
-        activity: 0,
-        operation: 0,
-        provision: 0,
-        kg_per_head: 0,
-    }
-}
-
 // The length, word 0 and the counts.
 #[tactic(auto, unfolding(crate::specs::Soundness::header_fine))]
 fn header_fine(book: &[u64]) -> bool
@@ -109,9 +60,9 @@ fn header_fine(book: &[u64]) -> bool
 {
     records::BOOK_LENGTH <= book.len()
         && book[0] == records::MARK
-        && book[records::CATEGORIES] <= records::MOST_CATEGORIES
-        && book[records::ENTRIES] <= records::MOST_ENTRIES
-        && book[records::ELEMENTS] <= records::MOST_ELEMENTS
+        && book[records::CATEGORIES] <= Category::MOST
+        && book[records::ENTRIES] <= Entry::MOST
+        && book[records::ELEMENTS] <= Element::MOST
 }
 
 // The sums are within the limits of refusal 10.
@@ -144,7 +95,7 @@ fn record_fine(book: &[u64], list: List, place: usize) -> bool
 {
     match list {
         List::Header => header_fine(book),
-        List::Categories => category_fine(records::read_category(book, place)),
+        List::Categories => category_fine(Category::read(book, place)),
         List::Entries => entry_fine(book, place),
         List::Elements => element_fine(book, place),
         List::Passengers => mixture::passengers_fine(book),
@@ -166,9 +117,9 @@ fn entry_fine(book: &[u64], place: usize) -> bool
     requires place_lt_most_entries { place < most_entries }
     ensures { result ≡ entry_fine book.now (entry_at book.now place) }
 {
-    let r = records::read_entry(book, place);
+    let r = Entry::read(book, place);
     (1..=book[records::CATEGORIES]).contains(&r.category)
-        && entry_suits(records::read_category(book, r.category as usize - 1), r)
+        && entry_suits(Category::read(book, r.category as usize - 1), r)
 }
 
 #[tactic(auto, unfolding(crate::specs::Soundness::entry_suits))]
@@ -188,12 +139,12 @@ fn element_fine(book: &[u64], place: usize) -> bool
     requires place_lt_most_elements { place < most_elements }
     ensures { result ≡ element_fine book.now (element_at book.now place) }
 {
-    let r = records::read_element(book, place);
+    let r = Element::read(book, place);
     if r.category == 0 {
         return quoted_suits(r);
     }
     r.category <= book[records::CATEGORIES]
-        && element_suits(records::read_category(book, r.category as usize - 1), r)
+        && element_suits(Category::read(book, r.category as usize - 1), r)
 }
 
 #[tactic(auto, unfolding(crate::specs::Soundness::quoted_suits))]
@@ -242,7 +193,7 @@ fn shares_fine(book: &[u64], place: usize) -> bool
     requires place_lt_most_categories { place < most_categories }
     ensures { result ≡ shares_fine book.now place }
 {
-    let r = records::read_category(book, place);
+    let r = Category::read(book, place);
     if r.closed == 0 {
         return true;
     }

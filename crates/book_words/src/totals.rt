@@ -9,7 +9,7 @@ ghost use Rattle.book_words.specs.Inner.Steps.{capped};
 ghost use Rattle.book_words.specs.Totals.{sums_of, with_entry, with_element, within_limits};
 ghost use Rattle.book_words.specs.Inner.Steps.{cap_sums};
 
-use crate::records::{Element, Entry};
+use crate::records::{Element, Entry, Record};
 use crate::{measures, records};
 
 // The largest sum of unstruck entries and quoted shares, 10^18 µg.
@@ -105,7 +105,7 @@ pub fn capped_unstruck_of(book: &[u64], category: u64) -> Amounts
     ensures { result ≡ by_sides (λ s. capped (unstruck_of book.now category s)) }
 {
     (0..book[records::ENTRIES] as usize).fold(Amounts::default(), |sum, place| {
-        add_sides(sum, unstruck_in(category, records::read_entry(book, place)))
+        add_sides(sum, unstruck_in(category, Entry::read(book, place)))
     })
 }
 
@@ -126,7 +126,7 @@ pub fn capped_shares_of(book: &[u64], category: u64) -> Amounts
     ensures { result ≡ by_sides (λ s. capped (shares_of book.now category s)) }
 {
     (0..book[records::ELEMENTS] as usize).fold(Amounts::default(), |sum, place| {
-        add_sides(sum, share_in(category, records::read_element(book, place)))
+        add_sides(sum, share_in(category, Element::read(book, place)))
     })
 }
 
@@ -147,7 +147,7 @@ fn entry_sums(book: &[u64]) -> Sums
     ensures { result ≡ cap_sums (sums_below book.now (entries book.now) 0) }
 {
     (0..book[records::ENTRIES] as usize).fold(Sums::default(), |sums, place| {
-        capped_with_entry(sums, records::read_entry(book, place))
+        capped_with_entry(sums, Entry::read(book, place))
     })
 }
 
@@ -157,16 +157,8 @@ pub fn capped_sums(book: &[u64]) -> Sums
     ensures { result ≡ cap_sums (sums_of book.now) }
 {
     (0..book[records::ELEMENTS] as usize).fold(entry_sums(book), |sums, place| {
-        capped_with_element(sums, records::read_element(book, place))
+        capped_with_element(sums, Element::read(book, place))
     })
-}
-
-// The sums over a book that is known to be sound.
-pub fn sums_of(book: &[u64]) -> Sums
-    requires { sound book.now ≡ true }
-    ensures { result ≡ sums_of book.now }
-{
-    capped_sums(book)
 }
 
 // The sums with one entry more, capped.

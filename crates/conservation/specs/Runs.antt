@@ -1,5 +1,5 @@
 -- A call on a book, and a list of them. Assumes nothing.
-use Rattle.std.specs.Prelude.{List, [], ◌∷◌, ℕ, Option, Some, None, Result, Ok, Err}
+use Rattle.std.specs.Prelude.{Bool, true, false, List, [], ◌∷◌, ℕ, Option, Some, None, Result, Ok, Err}
 use Rattle.apportion.specs.Refusals.{number_of}
 use Rattle.apportion.specs.declared.refusing.Refusal.{Refusal}
 use Rattle.book.specs.Calls.{fresh_book, open_reply, open_book, post_reply, post_book, strike_refusal, strike_book, enrol_reply, enrol_book, quote_reply, quote_book}
@@ -20,6 +20,16 @@ abbrev pub step_reply_in : Result (Option ℕ) Refusal → Reply
 step_reply_in (Ok (Some number)) = reply_of 0 number
 step_reply_in (Ok None) = refusal_alone 0
 step_reply_in (Err refusal) = refusal_alone (number_of refusal)
+
+-- whether a call appends a record, whose number it returns: "fresh, strike and close return nothing more"
+abbrev pub appends : Call → Bool
+appends (Open kind) = true
+appends (Post p) = true
+appends (Line l) = true
+appends (Strike entry) = false
+appends (Enrol e) = true
+appends (Quote q) = true
+appends (Close category) = false
 
 -- a call; the contract of `perform` is that it answers and leaves this
 abbrev pub step : List ℕ → Call → Step

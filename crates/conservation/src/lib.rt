@@ -2,8 +2,8 @@
 // A call is given as a value here, so that lists of calls can be spoken of.
 #![tactic(auto)]
 
-ghost use Rattle.std.specs.Prelude.{◌≡◌};
-ghost use Rattle.conservation.specs.Runs.{step, step_reply_in};
+ghost use Rattle.std.specs.Prelude.{◌≡◌, IfOk, is_some};
+ghost use Rattle.conservation.specs.Runs.{appends, step, step_reply_in};
 
 use apportion::Refusal;
 use book::{EnrolArguments, LineArguments, PostArguments, QuoteArguments};
@@ -27,6 +27,7 @@ pub enum Call {
 // Makes the call on the book, and answers the number of the record that it appended. Strike and close append none.
 pub fn perform(book: &mut [u64], call: Call) -> Result<Option<u64>, Refusal>
     ensures value { step_reply_in result ≡ (step book.old call).reply }
+    ensures number { IfOk result (λ number. is_some number ≡ appends call) }
     ensures book_after { book.new ≡ (step book.old call).book }
 {
     match call {

@@ -11,6 +11,7 @@ ghost use Rattle.report.specs.Sheet.{sheet_text, sheet_room};
 ghost use Rattle.quaymeter.specs.Program.{refused_line, printed_from, printed};
 
 use book_file::{Load, Place};
+use book_words::SoundWords;
 
 // One byte more than the longest file, so that a longer input is refused and not cut.
 const INPUT_ROOM: usize = 16_385;
@@ -34,15 +35,14 @@ fn print_loaded(file: &[u8], book: &mut [u64], out: &mut [u8]) -> usize
 {
     let answer = book_file::load(book, file);
     match answer {
-        Load::Loaded => print_book(book, out),
+        Load::Loaded => print_book(&SoundWords::of(book), out),
         Load::Stopped(number, place) => print_refusal(number, place, out),
     }
 }
 
 // Prints the sheet of a loaded book.
-fn print_book(book: &[u64], out: &mut [u8]) -> usize
-    requires book_value { sound book.now ≡ true }
-    requires out_len { length out.old ≡ sheet_room }
+fn print_book(book: &SoundWords, out: &mut [u8]) -> usize
+    requires { length out.old ≡ sheet_room }
     ensures value { result ≡ length (sheet_text book.now) }
     ensures out_after { out.new ≡ buffer_with (sheet_text book.now) out.old }
 {
@@ -65,7 +65,7 @@ fn read_input(rt: &HostRuntime, input: &mut [u8]) -> usize
     requires { most_bytes < length input.old }
     ensures { (result ≤ length input.new) × (result ≡ length (take result input.new)) }
 {
-    book_file::read_full(&mut rt.stdin(), input)
+    book_file::read_full(&mut rt.stdin(), input).unwrap_or_else(|got| got)
 }
 
 // Writes what is to be printed for a file. A write that fails is told on standard error.
@@ -80,6 +80,7 @@ fn write_output(rt: &HostRuntime, file: &[u8], text: &[u8])
 }
 
 fn main(rt: HostRuntime) {
+    // A read needs bytes that are there, so the buffer is an array, cut at what came.
     let mut input = [0u8; INPUT_ROOM];
     let mut out = [0u8; report::SHEET_ROOM];
     let got = read_input(&rt, &mut input);

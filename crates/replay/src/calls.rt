@@ -4,8 +4,8 @@ ghost use Rattle.conservation.specs.Runs.{step_reply_in};
 ghost use Rattle.replay.specs.Inner.Operations.{fresh_made, made, stated, intensity_told, line_made};
 ghost use Rattle.replay.specs.Stages.{stage_of, on_machine};
 
+use crate::cells;
 use crate::state::State;
-use crate::{cells, memory};
 use apportion::{Refusal, refusal_number};
 use book::LineArguments;
 use conservation::Call;
@@ -15,7 +15,7 @@ impl State {
     pub fn fresh(&mut self)
         ensures { stage_of self.new ≡ on_machine fresh_made (stage_of self.old) }
     {
-        let lent = self.lent.min(memory::LENGTH);
+        let lent = self.lent_count();
         let refusal = refusal_number(book::fresh(&mut self.memory[..lent]));
         self.output.print_line(refusal, &[]);
     }
@@ -24,7 +24,7 @@ impl State {
     pub fn make(&mut self, call: Call)
         ensures { stage_of self.new ≡ on_machine (made call) (stage_of self.old) }
     {
-        let lent = self.lent.min(memory::LENGTH);
+        let lent = self.lent_count();
         let answer = conservation::perform(&mut self.memory[..lent], call);
         let refusal = refusal_number(answer);
         match call {
@@ -37,7 +37,7 @@ impl State {
     pub fn statement(&mut self, chain: u64)
         ensures { stage_of self.new ≡ on_machine (stated chain) (stage_of self.old) }
     {
-        let lent = self.lent.min(memory::LENGTH);
+        let lent = self.lent_count();
         match book::statement(&self.memory[..lent], chain) {
             Ok(s) => {
                 let numbers = [s.elements, s.waiting, s.operation, s.provision, s.total];
@@ -51,7 +51,7 @@ impl State {
     pub fn intensity(&mut self, category: u64, code: u64)
         ensures { stage_of self.new ≡ on_machine (intensity_told category code) (stage_of self.old) }
     {
-        let lent = self.lent.min(memory::LENGTH);
+        let lent = self.lent_count();
         match book::intensity(&self.memory[..lent], category, code) {
             Ok(i) => self.output.print_line(0, &[i.operation, i.provision]),
             Err(refusal) => self.output.print_line(refusal.into(), &[0; 2]),

@@ -71,7 +71,8 @@ impl Cells {
 impl State {
     // Lists a cell, where there is room for it.
     pub fn list_cell(&mut self, cell: Cell)
-        ensures { stage_of self.new ≡ on_machine (cell_put cell) (stage_of self.old) }
+        ensures stage_after { stage_of self.new ≡ on_machine (cell_put cell) (stage_of self.old) }
+        ensures ok_after { self.new.output.ok ≡ self.old.output.ok }
     {
         if self.cells.count > 2 {
             self.set_bad();
@@ -94,7 +95,7 @@ pub fn cell_of(words: Words) -> Option<Cell>
 }
 
 // The weight of the sign, and the bits of infinity: above these, without the sign, are those of the NaNs.
-const SIGN: u64 = 9_223_372_036_854_775_808;
+const SIGN: u64 = 1 << 63;
 
 const INFINITY: u64 = 9_218_868_437_227_405_312;
 

@@ -4,8 +4,8 @@ ghost use Rattle.book_file.specs.Loading.{load_numbers, load_book};
 ghost use Rattle.replay.specs.Stages.{record_bytes, stage_of, taken};
 ghost use Rattle.replay.specs.Inner.Operations.{load_due, load_begun};
 
+use crate::records;
 use crate::state::State;
-use crate::{memory, records};
 use arrayvec::ArrayVec;
 use book_file::Numbers;
 
@@ -30,11 +30,12 @@ impl State {
     // A record of bytes of the file that is to come. The last record may have more than are missing.
     pub fn take(&mut self, bytes: &[u8])
         requires { record_bytes ≤ length bytes.now }
-        ensures { stage_of self.new ≡ taken bytes.now (stage_of self.old) }
+        ensures stage_after { stage_of self.new ≡ taken bytes.now (stage_of self.old) }
+        ensures ok_after { self.new.output.ok ≡ self.old.output.ok }
     {
         let count = self.missing.min(records::SIZE);
         self.file.truncate(ROOM - count);
-        let _ = self.file.try_extend_from_slice(&bytes[..count]);
+        self.file.try_extend_from_slice(&bytes[..count]).unwrap();
         self.missing -= count;
     }
 
@@ -45,7 +46,7 @@ impl State {
         if self.missing > 0 {
             return;
         }
-        let lent = self.lent.min(memory::LENGTH);
+        let lent = self.lent_count();
         let n = load_into(&mut self.memory, lent, &self.file);
         self.output.print_line(n.refusal, &[n.table, n.record]);
     }

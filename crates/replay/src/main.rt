@@ -42,10 +42,12 @@ const TURNS: u64 = u64::MAX / 65_536;
 
 fn main(rt: HostRuntime) {
     let mut stdin = rt.stdin();
+    // A read needs bytes that are there, so the buffer is an array, cut at what came.
     let mut chunk = [0u8; 65_536];
     let mut state = State::new(rt.stdout());
     for _turn in 0..TURNS {
-        let got = read_full(&mut stdin, &mut chunk);
+        // A read that fails counts as the end of the input.
+        let got = read_full(&mut stdin, &mut chunk).unwrap_or_else(|got| got);
         play(&mut state, &chunk[..got]);
         if got < chunk.len() || !state.goes_on() {
             break;

@@ -1,6 +1,6 @@
 // Operations 10 to 14: the words of the book's array, lent or not, and the weights that are listed behind them.
 ghost use Rattle.std.specs.Prelude.{◌≡◌, ◌+◌, ◌≤◌, length, take, drop};
-ghost use Rattle.replay.specs.Replay.{division_done, listed, poked, lent_anew, dumped};
+ghost use Rattle.replay.specs.Replay.{lent_count, machine_of, division_done, listed, poked, lent_anew, dumped};
 ghost use Rattle.replay.specs.Text.{numbers_line};
 ghost use Rattle.replay.specs.Waiting.{put};
 ghost use Rattle.replay.specs.Stages.{stage_of, on_machine};
@@ -15,6 +15,13 @@ pub const LENGTH: usize = 3000;
 pub const ROOM: usize = 300;
 
 impl State {
+    // How many words are lent, of those that the array has.
+    pub fn lent_count(&self) -> usize
+        ensures { result ≡ lent_count (machine_of self.now) }
+    {
+        self.lent.min(LENGTH)
+    }
+
     // Operation 10: divides the pool over the listed weights into so many shares, prints the answer and empties the list.
     pub fn divide(&mut self, pool: u64, size: u64)
         ensures { stage_of self.new ≡ on_machine (division_done pool size) (stage_of self.old) }
@@ -25,6 +32,7 @@ impl State {
             return;
         }
         let end = LENGTH + self.count.min(ROOM);
+        // The call is lent a slice of the asked length, and sevens show what it left.
         let mut sevens = [7u64; ROOM];
         let shares = &mut sevens[..size];
         let answer = apportion::divide(pool, &self.memory[LENGTH..end], shares);
@@ -35,7 +43,8 @@ impl State {
 
     // Operation 11: lists a weight, where there is room.
     pub fn list_weight(&mut self, weight: u64)
-        ensures { stage_of self.new ≡ on_machine (listed weight) (stage_of self.old) }
+        ensures stage_after { stage_of self.new ≡ on_machine (listed weight) (stage_of self.old) }
+        ensures ok_after { self.new.output.ok ≡ self.old.output.ok }
     {
         if self.count < ROOM {
             self.memory[LENGTH + self.count] = weight;
@@ -47,7 +56,8 @@ impl State {
 
     // Operation 12: writes a word of the array.
     pub fn poke(&mut self, index: u64, word: u64)
-        ensures { stage_of self.new ≡ on_machine (poked index word) (stage_of self.old) }
+        ensures stage_after { stage_of self.new ≡ on_machine (poked index word) (stage_of self.old) }
+        ensures ok_after { self.new.output.ok ≡ self.old.output.ok }
     {
         let index = index as usize;
         if index < LENGTH {
@@ -59,7 +69,8 @@ impl State {
 
     // Operation 13: later calls get so many words.
     pub fn lend(&mut self, count: u64)
-        ensures { stage_of self.new ≡ on_machine (lent_anew count) (stage_of self.old) }
+        ensures stage_after { stage_of self.new ≡ on_machine (lent_anew count) (stage_of self.old) }
+        ensures ok_after { self.new.output.ok ≡ self.old.output.ok }
     {
         let count = count as usize;
         if count <= LENGTH {

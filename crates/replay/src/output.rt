@@ -11,7 +11,7 @@ use std::io::{Stdout, Write};
 pub struct Output {
     // The bytes that wait.
     pub waiting: ArrayVec<u8, 65_536>,
-    // False after a write that failed: nothing is written from then on.
+    // False after a write that failed: nothing is written from then on. (A flag: the definitions of specs/ speak of it.)
     pub ok: bool,
     // Where the waiting bytes go.
     pub stdout: Stdout,
@@ -64,6 +64,7 @@ impl Output {
     fn put_number(&mut self, number: u64)
         ensures { self.new.waiting.items ≡ put self.old.waiting.items (decimal number) }
     {
+        // put_number writes into a lent slice, so the digits are an array that is cut.
         let mut digits = [0u8; 20];
         let count = report::put_number(number, &mut digits, 0);
         self.put_bytes(&digits[..count]);

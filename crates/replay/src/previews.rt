@@ -3,7 +3,6 @@ ghost use Rattle.std.specs.Prelude.{◌≡◌};
 ghost use Rattle.replay.specs.Replay.{preview_done};
 ghost use Rattle.replay.specs.Stages.{stage_of, on_machine};
 
-use crate::memory;
 use crate::state::State;
 
 // The longest slice of pairs.
@@ -19,7 +18,8 @@ impl State {
             self.set_bad();
             return;
         }
-        let lent = self.lent.min(memory::LENGTH);
+        let lent = self.lent_count();
+        // The call is lent a slice of the asked length, and sevens show what it left.
         let mut sevens = [7u64; PAIR_ROOM];
         let pairs = &mut sevens[..size];
         let answer = book::preview(&self.memory[..lent], pairs, category);

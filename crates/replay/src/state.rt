@@ -24,7 +24,7 @@ pub struct State {
     pub missing: usize,
     // How many records have been handled.
     pub passed: u64,
-    // False after a bad record.
+    // False after a bad record. (A flag: the definitions of specs/ speak of it.)
     pub good: bool,
     pub output: Output,
 }
@@ -50,7 +50,8 @@ impl State {
 
     // The record is bad.
     pub fn set_bad(&mut self)
-        ensures { stage_of self.new ≡ on_machine bad (stage_of self.old) }
+        ensures stage_after { stage_of self.new ≡ on_machine bad (stage_of self.old) }
+        ensures ok_after { self.new.output.ok ≡ self.old.output.ok }
     {
         self.good = false;
     }

@@ -35,7 +35,7 @@ answer-numbers text room answer is = ap printed_numbers is ∙ go (leb (length t
     go false = refl
 
 module _ (ws : List ℕ) where
-  -- the sheet of a sound book is printed
+  -- the sheet of a sound book is printed, and that of another refused
   pub sheet-answered : (room : ℕ) → sound ws ≡ true → sheet_answer ws room ≡ answer_for (sheet_text ws) room
   unfolding sheet_answer sheet_refusal
   sheet-answered room fine = rw fine
@@ -43,6 +43,14 @@ module _ (ws : List ℕ) where
   pub sheet-printed : (buffer : List ℕ) → sound ws ≡ true → sheet_buffer ws buffer ≡ buffer_with (sheet_text ws) buffer
   unfolding sheet_buffer sheet_refusal
   sheet-printed buffer fine = rw fine
+
+  pub sheet-refused : (room : ℕ) → sound ws ≡ false → sheet_answer ws room ≡ Err (Refused Unfit)
+  unfolding sheet_answer sheet_refusal
+  sheet-refused room unsound = rw unsound
+
+  pub sheet-unprinted : (buffer : List ℕ) → sound ws ≡ false → sheet_buffer ws buffer ≡ buffer
+  unfolding sheet_buffer sheet_refusal
+  sheet-unprinted buffer unsound = rw unsound
 
   -- what the answer says: document 01's number is that of the first ground
   pub sheet-numbers : (room : ℕ) (answer : Printed) → answer ≡ sheet_answer ws room → printed_numbers answer ≡ sheet_numbers ws room

@@ -25,12 +25,10 @@ use Rattle.book.specs.Statements.{of_chain}
 use Rattle.book.specs.Walk.{held_after, nothing}
 use Rattle.book.specs.declared.walks.Held.{Held}
 use Rattle.book.proofs.Laws.{held_next, chain-alone}
-use Rattle.book_words.specs.Book.{elements}
-use Rattle.book_words.specs.Inner.Steps.{numbered_element}
+use Rattle.book_words.specs.Book.{element_at, elements}
 use Rattle.book_words.specs.Measures.{most_chains}
 use Rattle.book_words.specs.Soundness.{sound}
 use Rattle.book_words.specs.declared.records.Element.{Element}
-use Rattle.book_words.proofs.NumberedRecords.{next-element}
 use Rattle.book_words.proofs.ShareSums.{chain-inside}
 use Rattle.report.specs.declared.table.Row.{Row}
 use Rattle.report.specs.Inner.Table.{is_met, row_after, rows_to, rows_after, held_for}
@@ -285,12 +283,12 @@ parted-sound ws fine k h = let inside = chain-inside ws fine k h in parted ws k 
 
 -- the next element of a walk over a sound book, read, and the rows before it
 module _ (ws : List ℕ) (k : ℕ) (next : (sound ws ≡ true) × (k < elements ws)) {rows : List Row} (table : rows ≡ rows_after ws k) {e : Element}
-    (read : e ≡ numbered_element ws (k + 1)) where
+    (read : e ≡ element_at ws k) where
   part : Parted ws k most_chains
   part = parted-sound ws next.0 k next.1
 
   chain_is : e.chain ≡ chain_at ws k
-  chain_is = ap (λ (r : Element). r.chain) (read ∙ next-element ws k next.1)
+  chain_is = ap (λ (r : Element). r.chain) read
 
   -- the walk over the chain from itself to itself is the chain's
   alone : (n : ℕ) → held_after ws (of_chains e.chain e.chain) n ≡ held_after ws (of_chain e.chain) n

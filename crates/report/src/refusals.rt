@@ -22,6 +22,7 @@ pub fn refusal_line(
     ensures result_value { printed_numbers result ≡ numbers_for 0 (refused_text number table «record») (length out.old) }
     ensures out_after { out.new ≡ buffer_with (refused_text number table «record») out.old }
 {
+    // The text is put into a lent slice, so the room is an array, and is cut.
     let mut room = [0u8; ROOM];
     let count = write_refused(number, table, record, &mut room);
     printing::print_text(&room[..count], out)

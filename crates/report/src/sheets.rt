@@ -14,6 +14,7 @@ use crate::{printing, table, text};
 use apportion::Refusal;
 use arrayvec::ArrayVec;
 use book::Held;
+use book_words::{Element, Record, SoundWords};
 
 // Room enough for a sheet: the heading, 256 lines of at most 74 bytes, and a last one of at most 72.
 pub const SHEET_ROOM: usize = 19_065;
@@ -21,7 +22,7 @@ pub const SHEET_ROOM: usize = 19_065;
 // The most rows of a small table, and of any, which has one for each element at most.
 const FEW: usize = 32;
 
-const MOST: usize = book_words::MOST_ELEMENTS as usize;
+const MOST: usize = Element::MOST as usize;
 
 // Prints the sheet of a book of any words.
 #[tactic(auto, unfolding(crate::specs::Sheet::sheet_refusal, crate::specs::Sheet::sheet_answer, crate::specs::Sheet::sheet_numbers, crate::specs::Sheet::sheet_buffer, crate::specs::Printing::numbers_for))]
@@ -30,16 +31,14 @@ pub fn sheet(book: &[u64], out: &mut [u8]) -> Result<usize, Unprinted>
     ensures result_value { printed_numbers result ≡ sheet_numbers book.now (length out.old) }
     ensures out_after { out.new ≡ sheet_buffer book.now out.old }
 {
-    if !book_words::is_sound(book) {
-        return Err(Unprinted::Refused(Refusal::Unfit));
-    }
-    sheet_sound(book, out)
+    let book = SoundWords::tested(book).map_err(Unprinted::Refused)?;
+    sheet_sound(&book, out)
 }
 
 // The same of a book that is known to be sound.
 #[tactic(auto, unfolding(crate::specs::Sheet::sheet_refusal, crate::specs::Sheet::sheet_answer, crate::specs::Sheet::sheet_numbers, crate::specs::Sheet::sheet_buffer, crate::specs::Printing::answer_for, crate::specs::Printing::numbers_for, crate::specs::Printing::buffer_with))]
-pub fn sheet_sound(book: &[u64], out: &mut [u8]) -> Result<usize, Unprinted>
-    requires { sound book.now ≡ true }
+pub fn sheet_sound(book: &SoundWords, out: &mut [u8]) -> Result<usize, Unprinted>
+    ensures book { sound book.now ≡ true }
     ensures value { result ≡ sheet_answer book.now (length out.old) }
     ensures result_value { printed_numbers result ≡ sheet_numbers book.now (length out.old) }
     ensures out_after { out.new ≡ sheet_buffer book.now out.old }
@@ -51,12 +50,13 @@ pub fn sheet_sound(book: &[u64], out: &mut [u8]) -> Result<usize, Unprinted>
 }
 
 // The same, for a buffer that may be too small: the text is written beside it first.
-fn print_within(book: &[u64], out: &mut [u8]) -> Result<usize, Unprinted>
-    requires { sound book.now ≡ true }
+fn print_within(book: &SoundWords, out: &mut [u8]) -> Result<usize, Unprinted>
+    ensures book { sound book.now ≡ true }
     ensures value { result ≡ answer_for (sheet_text book.now) (length out.old) }
     ensures result_value { printed_numbers result ≡ numbers_for 0 (sheet_text book.now) (length out.old) }
     ensures out_after { out.new ≡ buffer_with (sheet_text book.now) out.old }
 {
+    // The text is put into a lent slice, so the room is an array, and is cut.
     let mut room = [0u8; SHEET_ROOM];
     let count = write_sheet(book, &mut room);
     printing::print_text(&room[..count], out)
@@ -64,21 +64,20 @@ fn print_within(book: &[u64], out: &mut [u8]) -> Result<usize, Unprinted>
 
 // Writes the text of a sheet from the start of the buffer, and answers its length. Few elements are collected in a small table,
 // which costs less to clear.
-fn write_sheet(book: &[u64], out: &mut [u8]) -> usize
-    requires book_value { sound book.now ≡ true }
-    requires sheet_room_in_bounds { sheet_room ≤ length out.old }
+fn write_sheet(book: &SoundWords, out: &mut [u8]) -> usize
+    requires { sheet_room ≤ length out.old }
+    ensures book { sound book.now ≡ true }
     ensures value { result ≡ length (sheet_text book.now) }
     ensures out_after { out.new ≡ sets out.old 0 (sheet_text book.now) }
 {
-    if book[book_words::ELEMENTS] <= FEW as u64 {
+    if book.count::<Element>() <= FEW as u64 {
         return write_with_table::<FEW>(book, out);
     }
     write_with_table::<MOST>(book, out)
 }
 
 // The same with a table of at most N rows: one walk fills it, and all lines are put from it.
-fn write_with_table<const N: usize>(book: &[u64], out: &mut [u8]) -> usize
-    requires book_value { sound book.now ≡ true }
+fn write_with_table<const N: usize>(book: &SoundWords, out: &mut [u8]) -> usize
     requires room { (elements book.now ≤ N) × (N ≤ most_elements) }
     requires sheet_room_in_bounds { sheet_room ≤ length out.old }
     ensures value { result ≡ length (sheet_text book.now) }

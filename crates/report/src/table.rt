@@ -10,7 +10,7 @@ ghost use Rattle.report.specs.Inner.Table.{rows_after};
 
 use arrayvec::ArrayVec;
 use book::Held;
-use book_words::MOST_CHAINS;
+use book_words::{Element, MOST_CHAINS, SoundWords};
 
 // A chain, and what the walk of its statement holds.
 #[derive(Clone, Copy)]
@@ -31,15 +31,15 @@ impl Default for Row {
 }
 
 // Fills an empty table in one walk over the elements, and answers the class total.
-pub fn collect<const N: usize>(book: &[u64], rows: &mut ArrayVec<Row, N>) -> Held
-    requires book_value { sound book.now ≡ true }
+pub fn collect<const N: usize>(book: &SoundWords, rows: &mut ArrayVec<Row, N>) -> Held
     requires room { elements book.now ≤ N }
     requires empty { rows.old.items ≡ [] }
+    ensures book { sound book.now ≡ true }
     ensures value { result ≡ held_after book.now (of_chains 1 most_chains) (elements book.now) }
     ensures table { rows.new.items ≡ rows_after book.now (elements book.now) }
 {
     let mut total = book::NOTHING;
-    for passed in 0..book[book_words::ELEMENTS] {
+    for passed in 0..book.count::<Element>() {
         add_next(book, passed, rows);
         total = book::walk_on(book, 1, MOST_CHAINS, passed, total);
     }
@@ -47,13 +47,13 @@ pub fn collect<const N: usize>(book: &[u64], rows: &mut ArrayVec<Row, N>) -> Hel
 }
 
 // One element more: adds it in the row of its chain. A chain that is not met yet gets a row.
-fn add_next<const N: usize>(book: &[u64], passed: u64, rows: &mut ArrayVec<Row, N>)
-    requires book_value { (sound book.now ≡ true) × (passed < elements book.now) }
+fn add_next<const N: usize>(book: &SoundWords, passed: u64, rows: &mut ArrayVec<Row, N>)
+    requires passed { passed < elements book.now }
     requires room { elements book.now ≤ N }
     requires table { rows.old.items ≡ rows_after book.now passed }
     ensures { rows.new.items ≡ rows_after book.now (passed + 1) }
 {
-    let chain = book_words::numbered_element(book, passed + 1).chain;
+    let chain = book.record_at::<Element>(passed as usize).chain;
     match rows.binary_search_by_key(&chain, |row| row.chain) {
         Ok(at) => {
             rows[at].held = book::walk_on(book, chain, chain, passed, rows[at].held);

@@ -1,14 +1,11 @@
 -- The steps of the test and of the sums, and records by their numbers: what the functions that the calls are made of require and
 -- promise. Assumes nothing.
-use Rattle.std.specs.Prelude.{Bool, true, ◌≡◌, cond, List, [], ℕ, ◌+◌, ◌-◌, ◌≤◌, min, suc, length}
+use Rattle.std.specs.Prelude.{Bool, true, ◌≡◌, cond, List, ℕ, Option, Some, None, ◌+◌, ◌-◌, ◌≤◌, min, suc, length}
 use Rattle.apportion.specs.Places.{sum_below}
-use Rattle.book_words.specs.declared.records.Category.{Category}
-use Rattle.book_words.specs.declared.records.Element.{Element}
-use Rattle.book_words.specs.declared.records.Entry.{Entry}
 use Rattle.book_words.specs.declared.totals.Amounts.{Amounts}
 use Rattle.book_words.specs.declared.totals.Sums.{Sums}
-use Rattle.book_words.specs.Book.{book_length, categories, most_categories, category_at, category_of}
-use Rattle.book_words.specs.Book.{entries, most_entries, entry_at, entry_of, elements, most_elements, element_at}
+use Rattle.book_words.specs.Book.{book_length, categories, most_categories, category_at}
+use Rattle.book_words.specs.Book.{entries, most_entries, entry_at, elements, most_elements, element_at}
 use Rattle.book_words.specs.Measures.{between, standard_activity}
 use Rattle.book_words.specs.Soundness.{all_below, header_fine, category_fine, entry_fine, element_fine, elements_fine, passengers_fine, sums_fine, shares_fine}
 use Rattle.book_words.specs.declared.soundness.List.{List as Tested}
@@ -101,12 +98,6 @@ sums_below ws entry element =
       activity = sum_below element (λ p. standard_activity (element_at ws p));
     }
 
--- the record of this number, or that of no words, zeros, where there is none
-abbrev pub numbered_category : List ℕ → ℕ → Category
-numbered_category ws number = cond (between 1 (categories ws) number) (category_of ws number) (category_at [] 0)
-
-abbrev pub numbered_entry : List ℕ → ℕ → Entry
-numbered_entry ws number = cond (between 1 (entries ws) number) (entry_of ws number) (entry_at [] 0)
-
-abbrev pub numbered_element : List ℕ → ℕ → Element
-numbered_element ws number = cond (between 1 (elements ws) number) (element_at ws (number - 1)) (element_at [] 0)
+-- the record of this number, of so many that stand at these places
+abbrev pub numbered : {R : Type 0} → ℕ → (ℕ → R) → ℕ → Option R
+numbered count record_at number = cond (between 1 count number) (Some (record_at (number - 1))) None

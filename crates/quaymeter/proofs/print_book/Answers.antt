@@ -20,16 +20,16 @@ whole book out fine room is =
 
 pub unwrap-requires : goal.unwrap-requires
 unwrap-requires c =
-    let written = whole c.args.book.now c.args.out.now c.requires.book_value c.requires.out_len c.sheet_sound.ensures.value in
+    let written = whole c.args.book.now c.args.out.now c.sheet_sound.ensures.book c.requires c.sheet_sound.ensures.value in
     search rules
 
 pub returns-clause-value : goal.returns-clause-value
 returns-clause-value c =
-    let written = whole c.args.book.now c.args.out.now c.requires.book_value c.requires.out_len c.sheet_sound.ensures.value in
+    let written = whole c.args.book.now c.args.out.now c.sheet_sound.ensures.book c.requires c.sheet_sound.ensures.value in
     search rules
 
 pub returns-clause-out_after : goal.returns-clause-out_after
 returns-clause-out_after c =
     let book = c.args.book.now in
     let out = c.args.out.now in
-    c.sheet_sound.ensures.out_after ∙ sheet-printed book out c.requires.book_value
+    c.sheet_sound.ensures.out_after ∙ sheet-printed book out c.sheet_sound.ensures.book

@@ -5,20 +5,20 @@ use Rattle.book_words.specs.Soundness.{sound}
 use Rattle.quaymeter.proofs.Printing.{printed-book, printed-refusal}
 use Rattle.quaymeter.proofs.print_loaded.Goals as goal
 
-pub print_book-requires-clause-book_value : goal.print_book-requires-clause-book_value
-print_book-requires-clause-book_value c =
+pub of-requires : goal.of-requires
+of-requires c =
     let fine = loaded-sound _ _ (sym c.load-answer.ensures.value ∙ c.in-Loaded.is) in
     ap sound c.load-answer.ensures.book_after ∙ fine
 
 pub returns-in-Loaded-clause-value : goal.returns-in-Loaded-clause-value
 returns-in-Loaded-clause-value c =
     let told = c.in-Loaded.is in
-    rw (← printed-book _ _ told c.load-answer.ensures.value c.load-answer.ensures.book_after) c.print_book.ensures.value
+    rw (← printed-book _ _ told c.load-answer.ensures.value c.load-answer.ensures.book_after) (rw c.of.ensures at c.print_book.ensures.value)
 
 pub returns-in-Loaded-clause-out_after : goal.returns-in-Loaded-clause-out_after
 returns-in-Loaded-clause-out_after c =
     let told = c.in-Loaded.is in
-    rw (← printed-book _ _ told c.load-answer.ensures.value c.load-answer.ensures.book_after) c.print_book.ensures.out_after
+    rw (← printed-book _ _ told c.load-answer.ensures.value c.load-answer.ensures.book_after) (rw c.of.ensures at c.print_book.ensures.out_after)
 
 pub returns-in-Stopped-clause-value : goal.returns-in-Stopped-clause-value
 returns-in-Stopped-clause-value c =

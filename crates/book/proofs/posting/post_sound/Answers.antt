@@ -14,30 +14,22 @@ pub returns-in_err-check_grounds-clause-value : goal.returns-in_err-check_ground
 unfolding post_refusal post_reply post_book
 returns-in_err-check_grounds-clause-value c =
     let refusal = c.in_err-check_grounds.field-0.0 in
-    let is = decided-before 10 (post_grounds c.args.book.now c.args.p) refl c.in_err-check_grounds.ensures (number-some refusal) in
+    let is = decided-before 10 (post_grounds c.args.book.now c.args.p) refl (rw c.of.ensures at c.in_err-check_grounds.ensures) (number-some refusal) in
     reply-handed _ c.from_residual.result c.from_residual.ensures.1 ∙ (call-refused _ [] refusal {old = []} is).0
 
 pub returns-in_err-check_grounds-clause-book_after : goal.returns-in_err-check_grounds-clause-book_after
 unfolding post_refusal post_reply post_book
 returns-in_err-check_grounds-clause-book_after c =
     let refusal = c.in_err-check_grounds.field-0.0 in
-    let is = decided-before 10 (post_grounds c.args.book.now c.args.p) refl c.in_err-check_grounds.ensures (number-some refusal) in
+    let is = decided-before 10 (post_grounds c.args.book.now c.args.p) refl (rw c.of.ensures at c.in_err-check_grounds.ensures) (number-some refusal) in
     (call-refused 0 _ refusal is).1
 
-pub returns-clause-value : goal.returns-clause-value
-unfolding post_refusal post_reply post_book
-returns-clause-value c =
+pub returns : goal.returns
+unfolding post_refusal post_reply post_book add_entry
+returns c =
     let p = c.args.p in
-    (
+    let decided =
     record-decided with_entry add_entry (posted_entry p) _ (post_grounds c.args.book.now p) _ c.args.book.now refl refl
-    c.in_ok-check_grounds.ensures c.requires.sums_value c.posted.ensures (post-capped c.args.sums.now p)
-    (c.admit_entry.ensures.value, (c.admit_entry.ensures.book_after, c.admit_entry.ensures.sums_after))).0
-
-pub returns-clause-book_after : goal.returns-clause-book_after
-unfolding post_refusal post_reply post_book
-returns-clause-book_after c =
-    let p = c.args.p in
-    (
-    record-decided with_entry add_entry (posted_entry p) _ (post_grounds c.args.book.now p) _ c.args.book.now refl refl
-    c.in_ok-check_grounds.ensures c.requires.sums_value c.posted.ensures (post-capped c.args.sums.now p)
-    (c.admit_entry.ensures.value, (c.admit_entry.ensures.book_after, c.admit_entry.ensures.sums_after))).1.0
+    (rw c.of.ensures at c.in_ok-check_grounds.ensures) c.requires.sums_value c.posted.ensures (post-capped c.args.sums.now p)
+    (c.admit.ensures.value, (c.admit.ensures.book_after, c.admit.ensures.sums_after)) in
+    record { value = decided.0; book_after = decided.1.0; sums_after = decided.1.1 }

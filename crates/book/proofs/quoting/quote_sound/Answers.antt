@@ -14,30 +14,22 @@ pub returns-in_err-check_grounds-clause-value : goal.returns-in_err-check_ground
 unfolding quote_refusal quote_reply quote_book
 returns-in_err-check_grounds-clause-value c =
     let refusal = c.in_err-check_grounds.field-0.0 in
-    let is = decided-before 10 (quote_grounds c.args.book.now c.args.q) refl c.in_err-check_grounds.ensures (number-some refusal) in
+    let is = decided-before 10 (quote_grounds c.args.book.now c.args.q) refl (rw c.of.ensures at c.in_err-check_grounds.ensures) (number-some refusal) in
     reply-handed _ c.from_residual.result c.from_residual.ensures.1 ∙ (call-refused _ [] refusal {old = []} is).0
 
 pub returns-in_err-check_grounds-clause-book_after : goal.returns-in_err-check_grounds-clause-book_after
 unfolding quote_refusal quote_reply quote_book
 returns-in_err-check_grounds-clause-book_after c =
     let refusal = c.in_err-check_grounds.field-0.0 in
-    let is = decided-before 10 (quote_grounds c.args.book.now c.args.q) refl c.in_err-check_grounds.ensures (number-some refusal) in
+    let is = decided-before 10 (quote_grounds c.args.book.now c.args.q) refl (rw c.of.ensures at c.in_err-check_grounds.ensures) (number-some refusal) in
     (call-refused 0 _ refusal is).1
 
-pub returns-clause-value : goal.returns-clause-value
-unfolding quote_refusal quote_reply quote_book
-returns-clause-value c =
+pub returns : goal.returns
+unfolding quote_refusal quote_reply quote_book add_element
+returns c =
     let q = c.args.q in
-    (
+    let decided =
     record-decided with_element add_element (quoted_element q) _ (quote_grounds c.args.book.now q) _ c.args.book.now refl refl
-    c.in_ok-check_grounds.ensures c.requires.sums_value c.quoted.ensures (quote-capped c.args.sums.now q)
-    (c.admit_element.ensures.value, (c.admit_element.ensures.book_after, c.admit_element.ensures.sums_after))).0
-
-pub returns-clause-book_after : goal.returns-clause-book_after
-unfolding quote_refusal quote_reply quote_book
-returns-clause-book_after c =
-    let q = c.args.q in
-    (
-    record-decided with_element add_element (quoted_element q) _ (quote_grounds c.args.book.now q) _ c.args.book.now refl refl
-    c.in_ok-check_grounds.ensures c.requires.sums_value c.quoted.ensures (quote-capped c.args.sums.now q)
-    (c.admit_element.ensures.value, (c.admit_element.ensures.book_after, c.admit_element.ensures.sums_after))).1.0
+    (rw c.of.ensures at c.in_ok-check_grounds.ensures) c.requires.sums_value c.quoted.ensures (quote-capped c.args.sums.now q)
+    (c.admit.ensures.value, (c.admit.ensures.book_after, c.admit.ensures.sums_after)) in
+    record { value = decided.0; book_after = decided.1.0; sums_after = decided.1.1 }

@@ -13,7 +13,7 @@ loop-passed-init c =
 
 pub overflow_add-result : goal.overflow_add-result
 overflow_add-result c =
-    omega (arith, held_fits _ _ c.requires c.loop-passed.passed c.loop-passed.auto.passed-end c.loop-passed.invariant)
+    omega (arith, held_fits _ _ c.count-count.ensures.book c.loop-passed.passed (omega arith) c.loop-passed.invariant)
 
 pub returns : goal.returns
 returns c =

@@ -15,7 +15,7 @@ use Rattle.book.proofs.striking.strike_sound.Goals as goal
 pub set_struck-requires : goal.set_struck-requires
 set_struck-requires c =
     let ws = c.args.book.now in
-    let ok = struck ws c.args.entry (sym c.in_ok-check_grounds.ensures) in
+    let ok = struck ws c.args.entry (sym (rw c.of.ensures at c.in_ok-check_grounds.ensures)) in
     let numbered = not-false (between 1 (entries ws) c.args.entry) (ok 2) in
     let counts = sound-counted ws c.requires in (
       counts.long,
@@ -26,13 +26,13 @@ set_struck-requires c =
 pub returns-clause-book_after : goal.returns-clause-book_after
 unfolding strike_book
 returns-clause-book_after c =
-    rw (sym c.in_ok-check_grounds.ensures) c.set_struck.ensures
+    rw (sym (rw c.of.ensures at c.in_ok-check_grounds.ensures)) c.set_struck.ensures
 
 pub returns-in_err-check_grounds-clause-value : goal.returns-in_err-check_grounds-clause-value
 returns-in_err-check_grounds-clause-value c =
-    handed-on _ c.from_residual.result c.from_residual.ensures.1 ∙ c.in_err-check_grounds.ensures
+    handed-on _ c.from_residual.result c.from_residual.ensures.1 ∙ (rw c.of.ensures at c.in_err-check_grounds.ensures)
 
 pub returns-in_err-check_grounds-clause-book_after : goal.returns-in_err-check_grounds-clause-book_after
 unfolding strike_book
 returns-in_err-check_grounds-clause-book_after c =
-    sym (refused-leaves c.in_err-check_grounds.field-0.0 _ c.args.book.now c.in_err-check_grounds.ensures)
+    sym (refused-leaves c.in_err-check_grounds.field-0.0 _ c.args.book.now (rw c.of.ensures at c.in_err-check_grounds.ensures))

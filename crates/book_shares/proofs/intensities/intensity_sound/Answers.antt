@@ -40,7 +40,7 @@ returns-then-lacks_activity c =
     let number : intensity_refusal c.args.book.now c.args.category c.args.code ≡ 9 =
     (early_is c.args.book.now c.args.category c.args.code c.in_ok-check_grounds.ensures).late
     ∙ rw (
-    nine_is c.args.book.now c.args.category c.args.code c.list_members-places.ensures c.as_slice.ensures.value c.lacks_activity.ensures
+    nine_is c.args.book.now c.args.category c.args.code c.list_members-places.ensures.places c.as_slice.ensures.value c.lacks_activity.ensures
     ∙ c.if-lacks_activity.true) in
     reply-refused c.args.book.now c.args.category c.args.code 9 (sym number) (λ z. omega arith)
 
@@ -48,14 +48,14 @@ pub result-operation-requires : goal.result-operation-requires
 result-operation-requires c =
     allowed c.args.book.now c.args.category c.args.code
     (early_is c.args.book.now c.args.category c.args.code c.in_ok-check_grounds.ensures)
-    (nine_is c.args.book.now c.args.category c.args.code c.list_members-places.ensures c.as_slice.ensures.value c.lacks_activity.ensures
+    (nine_is c.args.book.now c.args.category c.args.code c.list_members-places.ensures.places c.as_slice.ensures.value c.lacks_activity.ensures
     ∙ c.if-lacks_activity.false)
 
 pub result-provision-requires : goal.result-provision-requires
 result-provision-requires c =
     allowed c.args.book.now c.args.category c.args.code
     (early_is c.args.book.now c.args.category c.args.code c.in_ok-check_grounds.ensures)
-    (nine_is c.args.book.now c.args.category c.args.code c.list_members-places.ensures c.as_slice.ensures.value c.lacks_activity.ensures
+    (nine_is c.args.book.now c.args.category c.args.code c.list_members-places.ensures.places c.as_slice.ensures.value c.lacks_activity.ensures
     ∙ c.if-lacks_activity.false)
 
 pub returns-then-operation-provision : goal.returns-then-operation-provision
@@ -63,7 +63,7 @@ returns-then-operation-provision c =
     let number : intensity_refusal c.args.book.now c.args.category c.args.code ≡ 10 =
     (early_is c.args.book.now c.args.category c.args.code c.in_ok-check_grounds.ensures).late
     ∙ rw (
-      nine_is c.args.book.now c.args.category c.args.code c.list_members-places.ensures c.as_slice.ensures.value c.lacks_activity.ensures
+      nine_is c.args.book.now c.args.category c.args.code c.list_members-places.ensures.places c.as_slice.ensures.value c.lacks_activity.ensures
           ∙ c.if-lacks_activity.false,
       ten c.args.book.now c.args.category c.args.code _ _ c.result-operation.ensures c.result-provision.ensures ∙ c.if-operation-provision.true,
     ) in
@@ -74,7 +74,7 @@ returns c =
     let number : intensity_refusal c.args.book.now c.args.category c.args.code ≡ 0 =
     (early_is c.args.book.now c.args.category c.args.code c.in_ok-check_grounds.ensures).late
     ∙ rw (
-      nine_is c.args.book.now c.args.category c.args.code c.list_members-places.ensures c.as_slice.ensures.value c.lacks_activity.ensures
+      nine_is c.args.book.now c.args.category c.args.code c.list_members-places.ensures.places c.as_slice.ensures.value c.lacks_activity.ensures
           ∙ c.if-lacks_activity.false,
       ten c.args.book.now c.args.category c.args.code _ _ c.result-operation.ensures c.result-provision.ensures ∙ c.if-operation-provision.false,
     ) in

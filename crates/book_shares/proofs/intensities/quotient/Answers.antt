@@ -8,11 +8,11 @@ use Rattle.book_shares.proofs.intensities.quotient.Goals as goal
 
 pub loop-init : goal.loop-init
 loop-init c =
-    shifting-start c.requires.0 c.add-whole.ensures
+    shifting-start c.requires.0 c.capped-whole.ensures
 
 pub loop-preserved : goal.loop-preserved
 loop-preserved c =
-    shifting-next c.loop.invariant c.requires.0 c.multiply.ensures c.add-whole-in-loop.ensures
+    shifting-next c.loop.invariant c.requires.0 c.multiply.ensures c.add-whole.ensures
 
 pub returns : goal.returns
 returns c =

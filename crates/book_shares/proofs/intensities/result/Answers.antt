@@ -1,11 +1,11 @@
 -- `book_shares::intensities::result` meets its contract: each quotient is that of the definition, capped. Assumes nothing.
-use mathlib.Core.Path.{◌≡◌, ap, ◌∙◌}
+use mathlib.Core.Path.{◌≡◌, ap, sym, ◌∙◌}
 use native.Mathlib.Omega.{arith}
-use Rattle.book_words.specs.Book.{category_of}
+use Rattle.book_words.specs.Book.{categories, category_at, category_of}
 use Rattle.book_words.specs.declared.records.Category.{Category}
 use Rattle.book_shares.specs.declared.pools.Pools.{Pools}
 use Rattle.book_shares.specs.Inner.Steps.{scale_tens}
-use Rattle.book_words.proofs.NumberedRecords.{category-there}
+use Rattle.book_words.proofs.NumberedRecords.{numbered-some}
 use Rattle.book_shares.proofs.ClosingShares.{parts_of}
 use Rattle.book_shares.proofs.SumBounds.{pool-limited}
 use Rattle.book_shares.proofs.PartsAdded.{parts-found}
@@ -37,7 +37,8 @@ pub returns-then-code-eq0 : goal.returns-then-code-eq0
 returns-then-code-eq0 c =
     let parts_are : c.divide_all-parts.result ≡ parts_of c.args.members.book.now c.args.members.category c.args.side = parts-found c.args.members.book.now c.args.members.category c.args.side c.args.members.places.now c.args.members.are _ _
     c.pools_of-pools.ensures c.divide_all-parts.ensures in
-    let tens_are : c.scale_tens-tens.result ≡ scale_tens (category_of c.args.members.book.now c.args.members.category).kind = let read = category-there c.args.members.book.now c.args.members.category _ c.numbered_category.ensures c.requires.numbered in
+    let tens_are : c.scale_tens-tens.result ≡ scale_tens (category_of c.args.members.book.now c.args.members.category).kind = let ws = c.args.members.book.now in
+    let read = (numbered-some (categories ws) (category_at ws) c.args.members.category (sym c.numbered.ensures.value ∙ c.unwrap-here.ensures)).1 in
     c.scale_tens-tens.ensures ∙ ap (λ (r : Category). scale_tens r.kind) read in
     freight-result c.requires c.args.members.are c.args.side parts_are c.if-code-eq100.false
     tens_are c.per_activity-freight.ensures c.if-code-eq0.true
@@ -50,7 +51,8 @@ pub returns : goal.returns
 returns c =
     let parts_are : c.divide_all-parts.result ≡ parts_of c.args.members.book.now c.args.members.category c.args.side = parts-found c.args.members.book.now c.args.members.category c.args.side c.args.members.places.now c.args.members.are _ _
     c.pools_of-pools.ensures c.divide_all-parts.ensures in
-    let tens_are : c.scale_tens-tens.result ≡ scale_tens (category_of c.args.members.book.now c.args.members.category).kind = let read = category-there c.args.members.book.now c.args.members.category _ c.numbered_category.ensures c.requires.numbered in
+    let tens_are : c.scale_tens-tens.result ≡ scale_tens (category_of c.args.members.book.now c.args.members.category).kind = let ws = c.args.members.book.now in
+    let read = (numbered-some (categories ws) (category_at ws) c.args.members.category (sym c.numbered.ensures.value ∙ c.unwrap-here.ensures)).1 in
     c.scale_tens-tens.ensures ∙ ap (λ (r : Category). scale_tens r.kind) read in
     group-result c.requires c.args.members.are c.args.side parts_are c.if-code-eq100.false
     tens_are c.per_activity-freight.ensures _ _ _ _ c.if-code-eq0.false c.pools_of-pools.ensures

@@ -9,18 +9,9 @@ use Rattle.book_words.proofs.SoundTests.{sound-counted}
 use Rattle.book_shares.proofs.listing.list_members.Invariants.{listed_to}
 use Rattle.book_shares.proofs.listing.list_members.Goals as goal
 
-pub bounds-book-3 : goal.bounds-book-3
-bounds-book-3 c =
-    omega (arith, sound-counted c.args.book.now c.requires)
-
-pub is_member-requires : goal.is_member-requires
-is_member-requires c =
-    let counts = sound-counted c.args.book.now c.requires in
-    (counts.long, omega (arith, counts, c.loop-place-test.true))
-
 pub overflow_cast-place : goal.overflow_cast-place
 overflow_cast-place c =
-    omega (arith, sound-counted c.args.book.now c.requires, c.loop-place-test.true)
+    omega (arith, sound-counted c.args.book.now c.record_at.ensures.book, c.loop-place-test.true)
 
 pub push-requires : goal.push-requires
 push-requires c =
@@ -30,7 +21,7 @@ push-requires c =
       ap length c.loop-place.invariant,
       kept-length test c.loop-place.place (λ p. p),
       count_most c.loop-place.place test,
-      sound-counted c.args.book.now c.requires,
+      sound-counted c.args.book.now c.record_at.ensures.book,
       c.loop-place-test.true,
     )
 
@@ -38,4 +29,4 @@ pub returns : goal.returns
 unfolding members
 returns c =
     let end : c.loop-place.place ≡ elements c.args.book.now = omega arith in
-    c.loop-place.invariant ∙ ap (listed_to c.args.book.now c.args.category) end
+    record { places = c.loop-place.invariant ∙ ap (listed_to c.args.book.now c.args.category) end; book = c.count-count.ensures.book }

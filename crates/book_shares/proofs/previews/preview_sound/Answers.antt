@@ -21,19 +21,19 @@ pub returns-then-short-clause-value : goal.returns-then-short-clause-value
 returns-then-short-clause-value c =
     let ws = c.args.book.now in
     let seventeen : preview_refusal ws c.args.pairs.now c.args.category ≡ 17 =
-    preview-short ws c.args.pairs.now c.args.category c.if-short.true ∙ rw c.requires in
+    preview-short ws c.args.pairs.now c.args.category c.if-short.true ∙ rw c.list_members-places.ensures.book in
     sym seventeen
 
 pub returns-then-short-clause-pairs_after : goal.returns-then-short-clause-pairs_after
 returns-then-short-clause-pairs_after c =
     let ws = c.args.book.now in
     let seventeen : preview_refusal ws c.args.pairs.now c.args.category ≡ 17 =
-    preview-short ws c.args.pairs.now c.args.category c.if-short.true ∙ rw c.requires in
+    preview-short ws c.args.pairs.now c.args.category c.if-short.true ∙ rw c.list_members-places.ensures.book in
     sym (preview-refused ws c.args.pairs.now c.args.category (λ z. omega (arith, seventeen)))
 
 pub work_out-requires : goal.work_out-requires
 work_out-requires c =
-    to-work-out c.args.book.now c.args.category c.requires (c.as_slice-members.ensures.value ∙ c.list_members-places.ensures)
+    to-work-out c.args.book.now c.args.category c.list_members-places.ensures.book (c.as_slice-members.ensures.value ∙ c.list_members-places.ensures.places)
 
 pub returns-in_err-work_out-clause-value : goal.returns-in_err-work_out-clause-value
 returns-in_err-work_out-clause-value c =
@@ -47,7 +47,7 @@ returns-in_err-work_out-clause-pairs_after c =
 
 pub hand_out_to-requires-clause-by_index : goal.hand_out_to-requires-clause-by_index
 hand_out_to-requires-clause-by_index c =
-    let ready = to-work-out c.args.book.now c.args.category c.requires (c.as_slice-members.ensures.value ∙ c.list_members-places.ensures) in
+    let ready = to-work-out c.args.book.now c.args.category c.list_members-places.ensures.book (c.as_slice-members.ensures.value ∙ c.list_members-places.ensures.places) in
     let none : close_refusal c.args.book.now c.args.category ≡ 0 = sym c.in_ok-work_out.ensures.value in
     in_pairs ready none c.work_out.ensures.operation_after c.work_out.ensures.provision_after c.put_pairs.new.pairs
     (omega (arith, c.if-short.false, c.put_pairs.auto.pairs))
@@ -60,7 +60,7 @@ returns-clause-value c =
 pub returns-clause-pairs_after : goal.returns-clause-pairs_after
 unfolding preview_pairs
 returns-clause-pairs_after c =
-    let ready = to-work-out c.args.book.now c.args.category c.requires (c.as_slice-members.ensures.value ∙ c.list_members-places.ensures) in
+    let ready = to-work-out c.args.book.now c.args.category c.list_members-places.ensures.book (c.as_slice-members.ensures.value ∙ c.list_members-places.ensures.places) in
     let none : close_refusal c.args.book.now c.args.category ≡ 0 = sym c.in_ok-work_out.ensures.value in
     let number = number_is c.args.book.now c.args.pairs.now c.args.category (omega (arith, c.if-short.false)) c.in_ok-work_out.ensures.value in
     let accepted : preview_refusal c.args.book.now c.args.pairs.now c.args.category ≡ 0 = omega (arith, number) in

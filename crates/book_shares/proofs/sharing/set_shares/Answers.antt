@@ -55,9 +55,6 @@ module _ (ws : List ℕ) (category : ℕ) (side : Side) (places : List ℕ) (are
       → three ≡ with_parts_of ws places (Group 1) q.chilled two → Held (length places) (3 * most_pool) three
   held_3 is-q is-p before first second third = held_next (held_2 is-q is-p before first second) (pools_ready is-q).0 third
 
-pub pools_of-pools-requires : goal.pools_of-pools-requires
-pools_of-pools-requires c = (accepted c.args.members.book.now c.args.members.category c.args.side c.args.members.places.now c.args.members.are c.requires.category_value).fine
-
 pub divide_all-parts-requires : goal.divide_all-parts-requires
 divide_all-parts-requires c =
     let k = accepted c.args.members.book.now c.args.members.category c.args.side c.args.members.places.now c.args.members.are c.requires.category_value in

@@ -26,28 +26,28 @@ loop-place-init c = remembered-start _
 
 pub offset_bounds-seen-r : goal.offset_bounds-seen-r
 offset_bounds-seen-r c =
-    omega (arith, category_most c.args.book.now c.loop-place.place c.requires.counts_within c.requires.book_value (omega arith) c.read_element-r.ensures)
+    omega (arith, category_most c.args.book.now c.loop-place.place c.requires.counts_within c.requires.book_value (omega arith) c.read-r.ensures)
 
 pub bounds-seen-r : goal.bounds-seen-r
 bounds-seen-r c =
-    omega (arith, category_most c.args.book.now c.loop-place.place c.requires.counts_within c.requires.book_value (omega arith) c.read_element-r.ensures)
+    omega (arith, category_most c.args.book.now c.loop-place.place c.requires.counts_within c.requires.book_value (omega arith) c.read-r.ensures)
 
 pub returns-then-eq : goal.returns-then-eq
 returns-then-eq c =
-    let within = category_most c.args.book.now c.loop-place.place c.requires.counts_within c.requires.book_value (omega arith) c.read_element-r.ensures in
-    remembered-mixed _ c.loop-place.invariant c.read_element-r.ensures (sym c.is_passenger.ensures ∙ c.if-is_passenger.true) within
+    let within = category_most c.args.book.now c.loop-place.place c.requires.counts_within c.requires.book_value (omega arith) c.read-r.ensures in
+    remembered-mixed _ c.loop-place.invariant c.read-r.ensures (sym c.is_passenger.ensures ∙ c.if-is_passenger.true) within
     c.is_weighed-weighed.ensures (omega arith) (sym c.eq.ensures ∙ c.if-eq.true)
 
 pub loop-place-preserved : goal.loop-place-preserved
 loop-place-preserved c =
-    let within = category_most c.args.book.now c.loop-place.place c.requires.counts_within c.requires.book_value (omega arith) c.read_element-r.ensures in
+    let within = category_most c.args.book.now c.loop-place.place c.requires.counts_within c.requires.book_value (omega arith) c.read-r.ensures in
     elim c.if-is_passenger.branch [
       | then-is_passenger+else-eq w ↦
           rw w.seen-is
-          (remembered-passenger _ c.loop-place.invariant c.read_element-r.ensures (sym c.is_passenger.ensures ∙ w.if-is_passenger.true) within
+          (remembered-passenger _ c.loop-place.invariant c.read-r.ensures (sym c.is_passenger.ensures ∙ w.if-is_passenger.true) within
           w.is_weighed-weighed.ensures (sym w.eq.ensures ∙ w.if-eq.false))
       | else-is_passenger w ↦
-          rw w.seen-is (remembered-freight _ c.loop-place.invariant c.read_element-r.ensures (sym c.is_passenger.ensures ∙ w.if-is_passenger.false))
+          rw w.seen-is (remembered-freight _ c.loop-place.invariant c.read-r.ensures (sym c.is_passenger.ensures ∙ w.if-is_passenger.false))
     ]
 
 pub returns : goal.returns

@@ -7,4 +7,4 @@ pub returns : goal.returns
 returns c =
     c.eq.ensures
     ∙ rw (c.capped_shares_of.ensures, c.capped_unstruck_of.ensures)
-    (shares-closed _ _ _ c.read_category-r.ensures c.if-r-eq0.false c.requires.limited)
+    (shares-closed _ _ _ c.read-r.ensures c.if-r-eq0.false c.requires.limited)

@@ -3,10 +3,6 @@ use native.Mathlib.Omega.{arith}
 use Rattle.book_words.proofs.SoundTests.{sound-counted}
 use Rattle.report.proofs.sheets.write_sheet.Goals as goal
 
-pub bounds-book-3 : goal.bounds-book-3
-bounds-book-3 c =
-    omega (arith, sound-counted c.args.book.now c.requires.book_value)
-
 pub write_with_table-requires-2-clause-room : goal.write_with_table-requires-2-clause-room
 write_with_table-requires-2-clause-room c =
-    omega (arith, sound-counted c.args.book.now c.requires.book_value)
+    omega (arith, sound-counted c.args.book.now c.count.ensures.book)

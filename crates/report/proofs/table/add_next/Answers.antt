@@ -14,12 +14,12 @@ use Rattle.report.proofs.table.add_next.Goals as goal
 pub walk_on-requires-clause-held_value : goal.walk_on-requires-clause-held_value
 walk_on-requires-clause-held_value g c =
     ap (λ (rows : List Row). (get_or rows c.in-Ok.at none).held) (c.deref-in-Ok.ensures.0 ∙ sym c.deref.ensures.0)
-    ∙ found-held c.args.book.now c.args.passed c.requires.book_value (c.deref.ensures.0 ∙ c.requires.table) c.numbered_element-chain.ensures
+    ∙ found-held c.args.book.now c.args.passed (c.record_at-chain.ensures.book, c.requires.passed) (c.deref.ensures.0 ∙ c.requires.table) c.record_at-chain.ensures.value
     c.in-Ok.ensures.bound (c.in-Ok.ensures.position (λ row. row.chain) (answers_always _ _ _ (λ f a r g called. search rules)))
 
 pub walk_on-held-requires-clause-held_value : goal.walk_on-held-requires-clause-held_value
 walk_on-held-requires-clause-held_value g c =
-    absent-held c.args.book.now c.args.passed c.requires.book_value (c.deref.ensures.0 ∙ c.requires.table) c.numbered_element-chain.ensures
+    absent-held c.args.book.now c.args.passed (c.record_at-chain.ensures.book, c.requires.passed) (c.deref.ensures.0 ∙ c.requires.table) c.record_at-chain.ensures.value
     c.in-Err.ensures.bound (c.in-Err.ensures.position (λ row. row.chain) (answers_always _ _ _ (λ f a r g called. search rules)))
 
 pub insert-requires : goal.insert-requires
@@ -30,8 +30,8 @@ insert-requires g c = (
     omega (
       arith,
       ap length c.requires.table,
-      rows-most c.args.book.now c.requires.book_value.0 c.args.passed (omega (arith, c.requires.book_value.1)),
-      c.requires.book_value.1,
+      rows-most c.args.book.now c.record_at-chain.ensures.book c.args.passed (omega (arith, c.requires.passed)),
+      c.requires.passed,
       c.requires.room,
     ),
   ),
@@ -42,14 +42,14 @@ returns-in-Ok g c =
     items-with_items c.args.rows.now _ (length-set _ _ _ ∙ ap length c.deref_mut.ensures.value)
     ∙ ap (λ (rows : List Row). set rows c.in-Ok.at (record { chain = (get_or rows c.in-Ok.at none).chain; held = c.walk_on.result }))
     (c.deref_mut.ensures.value ∙ sym c.deref.ensures.0)
-    ∙ found-next c.args.book.now c.args.passed c.requires.book_value (c.deref.ensures.0 ∙ c.requires.table) c.numbered_element-chain.ensures
+    ∙ found-next c.args.book.now c.args.passed (c.record_at-chain.ensures.book, c.requires.passed) (c.deref.ensures.0 ∙ c.requires.table) c.record_at-chain.ensures.value
     c.in-Ok.ensures.bound (c.in-Ok.ensures.position (λ row. row.chain) (answers_always _ _ _ (λ f a r g called. search rules)))
     c.walk_on.ensures
 
 pub returns-in-Err : goal.returns-in-Err
 returns-in-Err g c =
     c.insert.ensures.items
-    ∙ ap (λ (rows : List Row). insert rows c.in-Err.at (record { chain = c.numbered_element-chain.result.chain; held = c.walk_on-held.result })) (sym c.deref.ensures.0)
-    ∙ absent-next c.args.book.now c.args.passed c.requires.book_value (c.deref.ensures.0 ∙ c.requires.table) c.numbered_element-chain.ensures
+    ∙ ap (λ (rows : List Row). insert rows c.in-Err.at (record { chain = c.record_at-chain.result.chain; held = c.walk_on-held.result })) (sym c.deref.ensures.0)
+    ∙ absent-next c.args.book.now c.args.passed (c.record_at-chain.ensures.book, c.requires.passed) (c.deref.ensures.0 ∙ c.requires.table) c.record_at-chain.ensures.value
     c.in-Err.ensures.bound (c.in-Err.ensures.position (λ row. row.chain) (answers_always _ _ _ (λ f a r g called. search rules)))
     c.walk_on-held.ensures

@@ -10,7 +10,7 @@ use Rattle.replay.proofs.state.State.divide.Goals as goal
 
 pub returns-then-size-gt-ROOM : goal.returns-then-size-gt-ROOM
 unfolding division_done
-returns-then-size-gt-ROOM c = c.set_bad.ensures ∙ rw (lt-leb _ room c.if-size-gt-ROOM.true)
+returns-then-size-gt-ROOM c = c.set_bad.ensures.stage_after ∙ rw (lt-leb _ room c.if-size-gt-ROOM.true)
 
 pub returns : goal.returns
 unfolding division_done numbers_line

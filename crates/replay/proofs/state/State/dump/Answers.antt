@@ -20,4 +20,4 @@ returns-else-start-le-LENGTH c =
       | else-start-le-LENGTH-via-then-start-le-LENGTH+else-count-start w ↦ omega arith
       | else-start-le-LENGTH-via-else-start-le-LENGTH w ↦ omega arith
     ] in
-    c.set_bad.ensures ∙ rw (lt-leb (c.args.start + c.args.count) array_length over)
+    c.set_bad.ensures.stage_after ∙ rw (lt-leb (c.args.start + c.args.count) array_length over)

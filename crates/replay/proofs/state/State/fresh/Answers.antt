@@ -4,4 +4,4 @@ use Rattle.replay.proofs.state.State.fresh.Goals as goal
 
 pub returns : goal.returns
 unfolding numbers_line
-returns c = rw (c.print_line.ensures, c.refusal_number-refusal.ensures, c.fresh.ensures.value, c.fresh.ensures.book_after, c.min-lent.ensures)
+returns c = rw (c.print_line.ensures, c.refusal_number-refusal.ensures, c.fresh.ensures.value, c.fresh.ensures.book_after, c.lent_count-lent.ensures)

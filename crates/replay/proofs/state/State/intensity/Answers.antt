@@ -11,12 +11,12 @@ pub returns-in-Ok : goal.returns-in-Ok
 unfolding numbers_line
 returns-in-Ok c =
     let machine = (stage_of c.args.self.now).machine in
-    let told : _ ≡ intensity_reply (lent_words machine) c.args.category c.args.code = c.in-Ok.ensures ∙ rw c.min-lent.ensures refl in
+    let told : _ ≡ intensity_reply (lent_words machine) c.args.category c.args.code = c.in-Ok.ensures ∙ rw c.lent_count-lent.ensures refl in
     rw (c.print_line.ensures, ← told, take-append-drop (lent_count machine) machine.memory)
 
 pub returns-in-Err : goal.returns-in-Err
 unfolding numbers_line
 returns-in-Err c =
     let machine = (stage_of c.args.self.now).machine in
-    let told : _ ≡ intensity_reply (lent_words machine) c.args.category c.args.code = c.in-Err.ensures ∙ rw c.min-lent.ensures refl in
+    let told : _ ≡ intensity_reply (lent_words machine) c.args.category c.args.code = c.in-Err.ensures ∙ rw c.lent_count-lent.ensures refl in
     rw (c.print_line-in-Err.ensures, c.into.ensures, ← told, take-append-drop (lent_count machine) machine.memory)

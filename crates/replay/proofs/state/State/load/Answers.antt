@@ -11,5 +11,5 @@ returns c =
       c.print_line.ensures,
       c.load_into-n.ensures.value,
       c.load_into-n.ensures.words_after,
-      c.min-lent.ensures,
+      c.lent_count-lent.ensures,
     )

@@ -34,7 +34,7 @@ refusal_is (Err refusal) = refl
 pub returns-in-Strike : goal.returns-in-Strike
 unfolding numbers_line
 returns-in-Strike c =
-    rw (c.print_line.ensures, c.refusal_number-refusal.ensures, refusal_is c.perform-answer.result, c.perform-answer.ensures.value, c.perform-answer.ensures.book_after, c.min-lent.ensures)
+    rw (c.print_line.ensures, c.refusal_number-refusal.ensures, refusal_is c.perform-answer.result, c.perform-answer.ensures.value, c.perform-answer.ensures.book_after, c.lent_count-lent.ensures)
     (elim c.in-Strike.is [ inl is ↦ rw is.1 | inr is ↦ rw is.1 ])
 
 pub returns-in_default : goal.returns-in_default
@@ -48,5 +48,5 @@ returns-in_default c =
       refusal_is c.perform-answer.result,
       c.perform-answer.ensures.value,
       c.perform-answer.ensures.book_after,
-      c.min-lent.ensures,
+      c.lent_count-lent.ensures,
     )

@@ -9,7 +9,7 @@ use Rattle.replay.proofs.state.State.preview.Goals as goal
 
 pub returns-then-size-gt-PAIR_ROOM : goal.returns-then-size-gt-PAIR_ROOM
 unfolding preview_done
-returns-then-size-gt-PAIR_ROOM c = c.set_bad.ensures ∙ rw (lt-leb _ pair_room c.if-size-gt-PAIR_ROOM.true)
+returns-then-size-gt-PAIR_ROOM c = c.set_bad.ensures.stage_after ∙ rw (lt-leb _ pair_room c.if-size-gt-PAIR_ROOM.true)
 
 pub returns : goal.returns
 unfolding preview_done numbers_line
@@ -21,5 +21,5 @@ returns c =
       c.preview-answer.ensures.value,
       c.preview-answer.ensures.pairs_after,
       take-replicate {X = ℕ} c.args.size pair_room 7 c.if-size-gt-PAIR_ROOM.false,
-      c.min-lent.ensures,
+      c.lent_count-lent.ensures,
     )
