@@ -54,6 +54,7 @@ POINTS = {
     "1 own enums like Result": lambda f: lines(f, r"^pub enum (Conversion|Printed|Load)\b"),
     "1 zeros for none": lambda f: lines(f, r"^(pub )?fn numbered_\w+\("),
     "1 numbers for kinds": lambda f: lines(f, r"^\s*(\w+: )?match (list|operation) \{|fn \w+\(.*\b(list|operation): u64|^    operation: u64,|pub operation: u64,\n    pub words"),
+    "1 groups as numbers": lambda f: lines(f, r"Group\(u64\)|^(pub )?fn \w+\(.*group: u64|^    group: u64,"),
     "1 flags": lambda f: lines(f, r"^    pub (ok|good): bool|^    let mut good = "),
     "2 twins": lambda f: lines(
         f,
@@ -61,16 +62,30 @@ POINTS = {
         r"|capped_(unstruck|shares)_of|entry_sums|capped_sums|u32_at|u64_at|(categories|entries|elements)_in|print_(division|preview)"
         r"|read_full|read_input|put_bytes|(post|enrol|quote)(_sound)?)\b|let mut (places|operation|provision|index|slots) = \[0u",
     ),
+    "2 twins, by the second count": lambda f: lines(
+        f, r"^(pub )?fn set_(closed|struck)\b|^pub struct (Line|ConvertedLine)\b|fn (print_line|put_line)\b|if !(book_words::)?is_sound\(|pub fn (divide|preview)\(&mut self"
+    ),
     "3 loops by hand": lambda f: lines(f, r"^\s*('\w+: )?while "),
     "4 conversions by hand": lambda f: lines(f, r"^(pub )?fn (byte|four|u32_at|u64_at|is_kind|refusal_of|value_of|numbers_of|unit_by|waiting_of|cell_of|call_of)\b"),
+    "4 conversions by hand, by the second count": lambda f: lines(f, r"\bfn (place_numbers|operation_of|post_of|enrol_of|quote_of|stop_at|answer_at)\b|^pub fn read_(category|entry|element)_record"),
     "5 soundness in contracts": lambda f: lines(f, r"requires.*\bsound book\.(old|now) ≡ true"),
-    "5 sums in contracts": lambda f: lines(f, r"requires.*sums ≡ sums_of book"),
+    "5 sums in contracts": lambda f: lines(f, r"requires.*sums(\.old)? ≡ sums_of book"),
+    "5 counted books in contracts": lambda f: lines(f, r"requires.*CountsWithin book\.now"),
+    "5 the room of a sheet in contracts": lambda f: lines(f, r"requires.*length out\.old ≡ sheet_room"),
+    "5 rows that fit in contracts": lambda f: lines(f, r"requires.*(HeldFits|RowsFit|SlotsFit)"),
+    "5 the length of a book in contracts": lambda f: lines(f, r"requires.*book_length ≤ length "),
+    "5 sums of weights in contracts": lambda f: lines(f, r"requires.*total(\.now)? ≡ sum_of "),
+    "5 places in a file in contracts": lambda f: lines(f, r"requires.*at(\.now)? < 2 \^ 41"),
+    "5 a text and a place in it": lambda f: lines(f, r"fn \w+\(.*out: &mut \[u8\], at: usize"),
+    "5 the lent words in contracts": lambda f: lines(f, r"ensures same_words "),
     "5 the program's parts together": lambda f: lines(f, r"ensures.*stage_of "),
     "5 listed members": lambda f: lines(f, r"requires.*(Listed book\.now|≡ members_of book)"),
     "6 arrays with a length beside": lambda f: lines(f, r"\[\.\.(count|used|pairs|shares|lent|come|done|got|at)( \+ 1)?\]"),
     "6 parallel arrays": lambda f: lines(f, r"first_of\($|first_of\(&\[|quotients: &|remainders: &|operation: &(mut )?\[u64\]|index: &(mut )?\[u64\]"),
     "6 searches by hand": lambda f: lines(f, r"^fn words_below"),
+    "6 weights behind the words": lambda f: lines(f, r"memory: \[u64; memory::LENGTH"),
     "7 switches on a step": lambda f: lines(f, r"^    match (operation|list|table) \{"),
+    "7 switches, by the second count": lambda f: lines(f, r"^        match (operation|table|self) \{|^pub enum Measure\b"),
 }
 
 

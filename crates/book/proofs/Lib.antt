@@ -1,5 +1,4 @@
 -- What the proofs of the calls share, and the laws of the calls.
--- the length of a sound book
 -- the amounts of a quote
 pub mod QuotedAmounts
 -- a call's tests as the grounds of its definition

@@ -18,7 +18,7 @@ pub fn hand_out_to(
         ≡ hand_out_to first width members.now (length members.now) words.old
         (lists_by_side operation.now provision.now) }
 {
-    // Two slices by index: the library has laws for a zip of two, not of three.
+    // Two slices by index, beside the places.
     for (index, place) in members.iter().enumerate() {
         put_two(
             words,

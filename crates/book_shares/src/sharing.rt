@@ -1,8 +1,7 @@
 // What each element of a category gets.
-ghost use Rattle.std.specs.Prelude.{true, ◌≡◌, ℕ, ◌≤◌, ◌<◌, ◌*◌, ◌+◌, length};
+ghost use Rattle.std.specs.Prelude.{◌≡◌, ℕ, ◌≤◌, ◌<◌, ◌*◌, ◌+◌, length};
 ghost use Rattle.apportion.specs.Dividing.{most_pool};
 ghost use Rattle.apportion.specs.Places.{at, list_below};
-ghost use Rattle.book_words.specs.Soundness.{sound};
 ghost use Rattle.book_shares.specs.declared.weights.Recipients.TheVariants.{Freight};
 ghost use Rattle.book_shares.specs.Closing.{close_refusal};
 ghost use Rattle.book_shares.specs.Inner.Steps.{DivisibleOver, parts_by, with_parts_of};

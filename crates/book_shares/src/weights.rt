@@ -1,7 +1,6 @@
 // The elements that a pool goes to, and their activities: F, C and S, and P. The elements are those of a
 // category, by their places.
 ghost use Rattle.std.specs.Prelude.{true, ◌≡◌, ◌<◌, length};
-ghost use Rattle.apportion.specs.Places.{at};
 ghost use Rattle.book_words.specs.Soundness.{sound};
 ghost use Rattle.book_words.specs.Inner.Steps.{capped};
 ghost use Rattle.book_shares.specs.declared.weights.Measure.TheVariants.{Activity, Mass};

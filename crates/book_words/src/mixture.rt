@@ -1,9 +1,7 @@
 // Weighed and unweighed passengers of a category are not mixed: ground 14, and its rule of soundness.
 ghost use Rattle.std.specs.Prelude.{true, ◌≡◌};
-ghost use Rattle.book_words.specs.Book.{elements};
 ghost use Rattle.book_words.specs.Inner.Steps.{CountsWithin};
-ghost use Rattle.book_words.specs.Mixture.{mixes};
-ghost use Rattle.book_words.specs.Soundness.{sound, elements_fine, passengers_fine};
+ghost use Rattle.book_words.specs.Soundness.{elements_fine, passengers_fine};
 
 use crate::records::{Category, Element, Record};
 use crate::{measures, records};

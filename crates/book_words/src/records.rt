@@ -1,10 +1,9 @@
 // The layout of a book, and its records, each read from its words and written as them.
-ghost use Rattle.std.specs.Prelude.{true, ◌≡◌, ◌≤◌, ◌<◌, ◌+◌, ◌*◌, ℕ, List, length};
+ghost use Rattle.std.specs.Prelude.{◌≡◌, ◌≤◌, ◌<◌, ◌+◌, ◌*◌, ℕ, List, length};
 ghost use Rattle.std.proofs.Common.{rules, refl};
 ghost use Rattle.book_words.specs.Book.{book_length, count_of, start_of, category_list, most_categories, category_at, category_words};
 ghost use Rattle.book_words.specs.Book.{entry_list, most_entries, entry_at, entry_words, element_list, most_elements, element_at, element_words};
-ghost use Rattle.book_words.specs.Inner.Steps.{CountsWithin, numbered};
-ghost use Rattle.book_words.specs.Soundness.{sound};
+ghost use Rattle.book_words.specs.Inner.Steps.{CountsWithin};
 ghost use Rattle.book_words.specs.declared.records.Layout.{Layout};
 
 // The words of a book.

@@ -1,9 +1,8 @@
 // The sums of ground 10 and of soundness. A sum stops at 10^18 + 1, where it has passed every limit.
-ghost use Rattle.std.specs.Prelude.{cond, true, ◌≡◌, ◌+◌, ◌*◌, eqb};
+ghost use Rattle.std.specs.Prelude.{cond, ◌≡◌, ◌+◌, ◌*◌, eqb};
 ghost use Rattle.book_words.specs.Book.{entries};
 ghost use Rattle.book_words.specs.Measures.{standard_activity};
 ghost use Rattle.book_words.specs.Inner.Steps.{by_sides, side_of, sums_below, CountsWithin};
-ghost use Rattle.book_words.specs.Soundness.{sound};
 ghost use Rattle.book_words.specs.Totals.{unstruck, unstruck_of, share_of, shares_of};
 ghost use Rattle.book_words.specs.Inner.Steps.{capped};
 ghost use Rattle.book_words.specs.Totals.{sums_of, with_entry, with_element, within_limits};

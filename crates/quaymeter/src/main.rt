@@ -1,11 +1,10 @@
 // Reads a file from standard input and prints its sheet, or the line of its refusal, to standard output.
 #![tactic(auto)]
 
-ghost use Rattle.std.specs.Prelude.{true, ◌++◌, ◌≡◌, ◌≤◌, ◌<◌, length, take, drop};
+ghost use Rattle.std.specs.Prelude.{◌++◌, ◌≡◌, ◌≤◌, ◌<◌, length, take, drop};
 ghost use Rattle.book_file.specs.Answers.{place_numbers};
 ghost use Rattle.book_file.specs.File.{most_bytes};
 ghost use Rattle.book_file.specs.Loading.{load_book};
-ghost use Rattle.book_words.specs.Soundness.{sound};
 ghost use Rattle.report.specs.Printing.{buffer_with};
 ghost use Rattle.report.specs.Sheet.{sheet_text, sheet_room};
 ghost use Rattle.quaymeter.specs.Program.{refused_line, printed_from, printed};

@@ -11,7 +11,7 @@ use std::io::{Stdout, Write};
 pub struct Output {
     // The bytes that wait.
     pub waiting: ArrayVec<u8, 65_536>,
-    // False after a write that failed: nothing is written from then on. (A flag: the definitions of specs/ speak of it.)
+    // False after a write that failed: nothing is written from then on. A flag that has no value beside it.
     pub ok: bool,
     // Where the waiting bytes go.
     pub stdout: Stdout,

@@ -11,7 +11,7 @@ use std::io::Stdout;
 
 #[derive(Drop)]
 pub struct State {
-    // The words of the book's array, and behind them the listed weights, where the definitions of `specs/Replay.antt` have them.
+    // The words of the book's array, and behind them the listed weights.
     pub memory: [u64; memory::LENGTH + memory::ROOM],
     // How many weights are listed.
     pub count: usize,
@@ -24,7 +24,7 @@ pub struct State {
     pub missing: usize,
     // How many records have been handled.
     pub passed: u64,
-    // False after a bad record. (A flag: the definitions of specs/ speak of it.)
+    // False after a bad record. A flag that has no value beside it.
     pub good: bool,
     pub output: Output,
 }
