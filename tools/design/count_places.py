@@ -56,6 +56,7 @@ POINTS = {
     "1 numbers for kinds": lambda f: lines(f, r"^\s*(\w+: )?match (list|operation) \{|fn \w+\(.*\b(list|operation): u64|^    operation: u64,|pub operation: u64,\n    pub words"),
     "1 groups as numbers": lambda f: lines(f, r"Group\(u64\)|^(pub )?fn \w+\(.*group: u64|^    group: u64,"),
     "1 flags": lambda f: lines(f, r"^    pub (ok|good): bool|^    let mut good = "),
+    "1 marks, freight and hubs as numbers, by the third count": lambda f: lines(f, r"\.(closed|struck) (!=|==) 0|\bcode <= 2\b|\bkind == 4\b|^        4 => 0"),
     "2 twins": lambda f: lines(
         f,
         r"^(pub )?fn (read_(category|entry|element)|numbered_(category|entry|element)|add_(category|entry|element)|admit_(entry|element)"
@@ -65,9 +66,12 @@ POINTS = {
     "2 twins, by the second count": lambda f: lines(
         f, r"^(pub )?fn set_(closed|struck)\b|^pub struct (Line|ConvertedLine)\b|fn (print_line|put_line)\b|if !(book_words::)?is_sound\(|pub fn (divide|preview)\(&mut self"
     ),
+    "2 twins, by the third count": lambda f: lines(f, r"^const SIGN\b|^pub struct (Amounts|Intensity)\b|^fn (capped_total|quotient|nearest_thousandth)\b|^pub fn capped_with_"),
     "3 loops by hand": lambda f: lines(f, r"^\s*('\w+: )?while "),
+    "3 walks by number, by the third count": lambda f: lines(f, r"for \w+ in 0\.\.|\(0\.\."),
     "4 conversions by hand": lambda f: lines(f, r"^(pub )?fn (byte|four|u32_at|u64_at|is_kind|refusal_of|value_of|numbers_of|unit_by|waiting_of|cell_of|call_of)\b"),
     "4 conversions by hand, by the second count": lambda f: lines(f, r"\bfn (place_numbers|operation_of|post_of|enrol_of|quote_of|stop_at|answer_at)\b|^pub fn read_(category|entry|element)_record"),
+    "4 defaults and answers by hand, by the third count": lambda f: lines(f, r"^impl Default for|^pub const NOTHING|map_err\(Unprinted|^    match answer \{|= Pools \{$|self\.good as u64|limit as u64"),
     "5 soundness in contracts": lambda f: lines(f, r"requires.*\bsound book\.(old|now) ≡ true"),
     "5 sums in contracts": lambda f: lines(f, r"requires.*sums(\.old)? ≡ sums_of book"),
     "5 counted books in contracts": lambda f: lines(f, r"requires.*CountsWithin book\.now"),
@@ -80,12 +84,17 @@ POINTS = {
     "5 the lent words in contracts": lambda f: lines(f, r"ensures same_words "),
     "5 the program's parts together": lambda f: lines(f, r"ensures.*stage_of "),
     "5 listed members": lambda f: lines(f, r"requires.*(Listed book\.now|≡ members_of book)"),
+    "5 what readers say of the words, by the third count": lambda f: lines(f, r"ensures book \{"),
+    "5 a printed text, by the third count": lambda f: lines(f, r"ensures result_value \{ printed_numbers"),
+    "5 the output kept, by the third count": lambda f: lines(f, r"ensures ok_after"),
+    "5 one slice as long as another, by the third count": lambda f: lines(f, r"requires.*length \w+\.(old|now) ≡ length \w"),
     "6 arrays with a length beside": lambda f: lines(f, r"\[\.\.(count|used|pairs|shares|lent|come|done|got|at)( \+ 1)?\]"),
     "6 parallel arrays": lambda f: lines(f, r"first_of\($|first_of\(&\[|quotients: &|remainders: &|operation: &(mut )?\[u64\]|index: &(mut )?\[u64\]"),
     "6 searches by hand": lambda f: lines(f, r"^fn words_below"),
-    "6 weights behind the words": lambda f: lines(f, r"memory: \[u64; memory::LENGTH"),
+    "6 weights behind the words": lambda f: lines(f, r"memory: \[u64; memory::LENGTH \+"),
     "7 switches on a step": lambda f: lines(f, r"^    match (operation|list|table) \{"),
     "7 switches, by the second count": lambda f: lines(f, r"^        match (operation|table|self) \{|^pub enum Measure\b"),
+    "7 sides one after the other, by the third count": lambda f: lines({n: t for n, t in f.items() if "book_shares" in n}, r"Side::(Operation|Provision)\b"),
 }
 
 

@@ -9,13 +9,14 @@ use native.Mathlib.Omega.{arith}
 use lib.Dec.{ltb, leb, eqb}
 use lib.ListN.{length}
 use borrow.Author.Tests.{lt-ltb, eq-eqb, ne_eqb, ltb-false, eqb-true, not-false}
+use Rattle.std.proofs.lemmas.Bool.{cases_lt}
 use Rattle.apportion.specs.Places.{one_if, list_below, at, sum_of}
 use Rattle.apportion.specs.Dividing.{floor_at, remainder_at, left_over, before, rank, unit_for, unit_at, share_at}
 use Rattle.apportion.specs.Dividing.{divided, most_places, most_pool, most_total, grounds, refusal, shares_after}
 use Rattle.apportion.specs.Inner.Products.{Accepted}
 use Rattle.apportion.specs.Inner.Units.{count_at_least, with_units}
 use Rattle.apportion.proofs.Grounds.{none-holds, or-none, accepted-new, refused-old}
-use Rattle.apportion.proofs.Sums.{below_or_not, sum-cong, sum-some, count_most}
+use Rattle.apportion.proofs.Sums.{sum-cong, sum-some, count_most}
 use Rattle.apportion.proofs.Lists.{list_length, list_at, list-past, list-cong}
 use Rattle.apportion.proofs.UnitsByBound.{reach-zero, reach-none}
 use Rattle.apportion.proofs.FloorsAndUnits.{remainder-less, floors-within, left-few}
@@ -58,7 +59,7 @@ refusal-capped pool places slots total =
     (λ (large : suc most_total ≤ total).
     let e : min total (suc most_total) ≡ suc most_total = omega arith in
     rw (e, lt-ltb most_total total large, ne_eqb total 0 (omega arith)))
-    (below_or_not total (suc most_total))
+    (cases_lt total (suc most_total))
 
 -- a unit looks at the numbers of the places alone
 unit-cong : (n : ℕ) (r s : ℕ → ℕ) (left k : ℕ) → k < n → ((j : ℕ) → j < n → r j ≡ s j) → unit_for n r left k ≡ unit_for n s left k
@@ -118,12 +119,11 @@ module _ (pool : ℕ) (weights : List ℕ) where
       (λ (here : k < n).
       omega (arith, list_at n (floor_at pool weights) k here, sum-some n (floor_at pool weights) k here, floors-within pool weights))
       (λ (past : n ≤ k). omega (arith, list-past n (floor_at pool weights) k past))
-      (below_or_not k n)
+      (cases_lt k n)
 
 -- The calls of a division in their order: what each asks follows from what the floors gave.
 pub record Floored (pool total : ℕ) (weights : List ℕ) (left : ℕ) (given-floors given-remainders : List ℕ) : Type 0 where
-  pub accepted : Accepted pool total
-  pub total_is : total ≡ sum_of weights
+  pub accepted : Accepted pool total weights
   pub left_is : left ≡ left_over pool weights
   pub floors_are : given-floors ≡ floors pool weights
   pub remainders_are : given-remainders ≡ remainders pool weights
@@ -131,12 +131,12 @@ pub record Floored (pool total : ℕ) (weights : List ℕ) (left : ℕ) (given-f
 module _ {pool total : ℕ} {weights : List ℕ} {left : ℕ} {given-floors given-remainders : List ℕ}
     (f : Floored pool total weights left given-floors given-remainders) where
   some-weight : 0 < sum_of weights
-  some-weight = omega (arith, f.accepted.some, f.total_is)
+  some-weight = omega (arith, f.accepted.some, f.accepted.total_is)
 
   pub bound-asked : (0 < total) × (count_at_least given-remainders total ≤ left) × (left ≤ count_at_least given-remainders 0)
   bound-asked = (
     f.accepted.some,
-    rw (f.remainders_are, f.total_is, f.left_is) (none-reach pool weights some-weight),
+    rw (f.remainders_are, f.accepted.total_is, f.left_is) (none-reach pool weights some-weight),
     rw (f.remainders_are, f.left_is) (all-reach pool weights some-weight),
   )
 
@@ -155,9 +155,19 @@ module _ {pool : ℕ} {weights shares : List ℕ} {total number : ℕ} (r : Reck
   pub number-whole : number ≡ refusal pool (length weights) (length shares) (sum_of weights)
   number-whole = r.number_is ∙ rw r.total_is (refusal-capped pool (length weights) (length shares) (sum_of weights))
 
-  pub total-whole : number ≡ 0 → total ≡ sum_of weights
-  total-whole e =
-      omega (arith, (admitted pool (length weights) (length shares) total (sym r.number_is ∙ e)).within, r.total_is)
+  pub slots-admitted : number ≡ 0 → length shares ≡ length weights
+  slots-admitted e = (admitted pool (length weights) (length shares) total (sym r.number_is ∙ e)).long
+
+  pub pool-accepted : number ≡ 0 → (pool ≡ 0 → ⊥) → Accepted pool total weights
+  pool-accepted e some =
+      let facts = admitted pool (length weights) (length shares) total (sym r.number_is ∙ e) in
+      record {
+        some = facts.some some;
+        within = facts.within;
+        pool_within = facts.pool_within;
+        few = facts.few;
+        total_is = omega (arith, facts.within, r.total_is);
+      }
 
   pub shares-accepted : number ≡ 0 → divided pool weights ≡ shares_after pool weights shares
   unfolding shares_after

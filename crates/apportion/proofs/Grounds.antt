@@ -46,11 +46,6 @@ abbrev pub grounds_from : ℕ → List Ground → List Ground
 grounds_from number [] = []
 grounds_from number (g ∷ gs) = cond (eqb number g.0) (g ∷ gs) (grounds_from number gs)
 
--- the grounds behind that of this number
-abbrev pub grounds_after : ℕ → List Ground → List Ground
-grounds_after number [] = []
-grounds_after number (g ∷ gs) = cond (eqb number g.0) gs (grounds_after number gs)
-
 -- every number is above 0
 abbrev pub are_numbered : List Ground → Bool
 are_numbered [] = true

@@ -8,10 +8,11 @@ use native.Mathlib.Nat.{zero-mul, zero-div, mul-le-mul_right, eq-zero-or-pos}
 use native.Mathlib.Omega.{arith}
 use lib.ListN.{length, get_or-eq_default}
 use borrow.Author.Tests.{lt-ltb}
+use Rattle.std.proofs.lemmas.Bool.{cases_lt}
 use Rattle.apportion.specs.Places.{list_below, at, sum_of}
 use Rattle.apportion.specs.Nearness.{Within}
 use Rattle.apportion.specs.Dividing.{floor_at, remainder_at, left_over, unit_at, share_at, divided, Divisible}
-use Rattle.apportion.proofs.Sums.{below_or_not, sum-add}
+use Rattle.apportion.proofs.Sums.{sum-add}
 use Rattle.apportion.proofs.Lists.{list_length, list_at, list-cong, list-past, list-sum}
 use Rattle.apportion.proofs.UnitsByBound.{before-larger, before-equal, unit-before}
 use Rattle.apportion.proofs.FloorsAndUnits.{floor-none, remainder-none, left-and-floors, unit-none, unit-of-none, unit-most, units-left}
@@ -55,7 +56,7 @@ module _ (pool : ℕ) (weights : List ℕ) where
       (λ (here : k < length weights).
       omega (arith, share-parts k here, floor-none pool weights k e, unit))
       (λ (past : length weights ≤ k). list-past (length weights) (share_at pool weights) k past)
-      (below_or_not k (length weights))
+      (cases_lt k (length weights))
     where
       unit : unit_at pool weights k ≡ 0
       unit =
@@ -72,7 +73,7 @@ module _ (pool : ℕ) (weights : List ℕ) where
       (λ (past : length weights ≤ k).
       let none : at weights k ≡ 0 = get_or-eq_default weights 0 past in
       rw (share-of-zero (inl some) k none, none) (omega arith))
-      (below_or_not k (length weights))
+      (cases_lt k (length weights))
     where
       times : k < length weights → at (divided pool weights) k * sum_of weights ≡ (floor_at pool weights k + unit_at pool weights k) * sum_of weights
       times here = ap (λ (m : ℕ). m * sum_of weights) (share-parts k here)

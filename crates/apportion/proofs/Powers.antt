@@ -8,10 +8,10 @@ use native.Mathlib.Nat.{add-zero, mul-add-div_right, div-eq_of_lt, mul-add-mod_s
 use native.Mathlib.Omega.{arith}
 use lib.Pow.{pow_mono}
 use lib.ListN.{length}
+use Rattle.std.proofs.lemmas.Bool.{cases_lt}
 use Rattle.apportion.specs.declared.floors.Division.{Division}
 use Rattle.apportion.specs.Dividing.{most_total}
 use Rattle.apportion.specs.Inner.Products.{Powers, division_at}
-use Rattle.apportion.proofs.Sums.{below_or_not}
 
 -- a power of two within a number is below one that is over it
 power_below : (b bit most : ℕ) → 2 ^ b ≤ most → most < 2 ^ bit → b < bit
@@ -19,7 +19,7 @@ power_below b bit most within over =
     ⊎_elim
     (λ (l : b < bit). l)
     (λ (large : bit ≤ b). let z : ⊥ = omega (arith, pow_mono large) in absurd z)
-    (below_or_not b bit)
+    (cases_lt b bit)
 
 -- one within 10^18 is below the 60th
 pub bit_small : (bit : ℕ) → 2 ^ bit ≤ most_total → bit < 60

@@ -32,10 +32,14 @@ number-some = elim [
   | ShortPairs ↦ λ e. omega arith
 ]
 
--- the answer that a refusal is handed on in has its number
+-- the answer that an error is handed on in
+pub handed-on_as : {A E : Type 0} (error : E) (answer : Result A E) → IsErrAnd answer (λ e. e ≡ error) → answer ≡ Err error
+handed-on_as error (Ok a) h = absurd h
+handed-on_as error (Err e) h = rw h
+
+-- where it is a refusal, its number
 pub handed-on : {A : Type 0} (r : Refusal) (answer : Result A Refusal) → IsErrAnd answer (λ e. e ≡ r) → refusal_in answer ≡ number_of r
-handed-on r (Ok a) h = absurd h
-handed-on r (Err e) h = rw h
+handed-on r answer h = rw (handed-on_as r answer h)
 
 -- an answer with the number 0 is no refusal
 pub none-refused : {A : Type 0} (answer : Result A Refusal) → refusal_in answer ≡ 0 → IsOk answer

@@ -6,25 +6,17 @@ use Prim.Native.Nat.{ℕ, zero, suc, ◌+◌, ◌*◌, ◌≤◌, ◌<◌, zero-
 use native.Mathlib.Nat.{le_refl, eq-or-lt_of_le, mul-zero}
 use native.Mathlib.Numerals.{add-one}
 use native.Mathlib.Omega.{arith}
-use lib.Dec.{ltb}
 use mir.Val.{bool_byte}
-use borrow.Author.Tests.{ltb-true, ltb-false}
+pub use Rattle.std.proofs.lemmas.Bool.{cases_lt as cases_lt, cases_lt}
 use Rattle.apportion.specs.Places.{sum_below, one_if, count_below}
 
 -- one of two numbers is smaller, or they are equal
 pub order : (a b : ℕ) → (a < b) ⊎ ((a ≡ b) ⊎ (b < a))
-order a b = go (ltb a b) refl
-  where
-    go : (t : Bool) → ltb a b ≡ t → (a < b) ⊎ ((a ≡ b) ⊎ (b < a))
-    go true e = inl (ltb-true a b e)
-    go false e = inr (⊎_elim (λ (s : b ≡ a). inl (sym s)) (λ (l : b < a). inr l) (eq-or-lt_of_le (ltb-false a b e)))
-
-pub below_or_not : (a b : ℕ) → (a < b) ⊎ (b ≤ a)
-below_or_not a b =
+order a b =
     ⊎_elim
     (λ (l : a < b). inl l)
-    (λ (m : (a ≡ b) ⊎ (b < a)). inr (⊎_elim (λ (e : a ≡ b). omega arith) (λ (l : b < a). omega arith) m))
-    (order a b)
+    (λ (s : b ≤ a). inr (⊎_elim (λ (e : b ≡ a). inl (sym e)) (λ (l : b < a). inr l) (eq-or-lt_of_le s)))
+    (cases_lt a b)
 
 pub sum-le : (n : ℕ) (f g : ℕ → ℕ) → ((k : ℕ) → k < n → f k ≤ g k) → sum_below n f ≤ sum_below n g
 sum-le zero f g less = omega arith

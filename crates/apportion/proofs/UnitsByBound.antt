@@ -8,10 +8,11 @@ use native.Mathlib.Nat.{le_refl, le_trans, eq-or-lt_of_le, zero-add}
 use native.Mathlib.Omega.{arith}
 use lib.Dec.{ltb, leb, eqb}
 use borrow.Author.Tests.{lt-ltb, le-ltb, le-leb, lt-leb, eq-eqb, ne_eqb, ltb-true, ltb-false, leb-true, leb-false}
+use Rattle.std.proofs.lemmas.Bool.{cases_lt}
 use Rattle.apportion.specs.Places.{sum_below, one_if, count_below}
 use Rattle.apportion.specs.Dividing.{before, rank, unit_for}
 use Rattle.apportion.specs.Inner.Units.{reach, unit_by}
-use Rattle.apportion.proofs.Sums.{order, below_or_not, sum-cong, sum-le, sum_lt, sum-add, sum-zero, one-le, sum-some}
+use Rattle.apportion.proofs.Sums.{order, sum-cong, sum-le, sum_lt, sum-add, sum-zero, one-le, sum-some}
 
 module _ (r : ℕ → ℕ) (j k : ℕ) where
   pub before-larger : r k < r j → before r j k ≡ true
@@ -60,7 +61,7 @@ module _ (n : ℕ) (r : ℕ → ℕ) (k : ℕ) where
           ⊎_elim
           (λ (l : r j < r k). absurd (true≢false (sym e ∙ before-smaller r j k l)))
           (λ (l : r k ≤ r j). le-leb (r k) (r j) l)
-          (below_or_not (r j) (r k))
+          (cases_lt (r j) (r k))
 
   -- every place whose number is above that of place k comes before it
   pub reach-rank : reach n r (suc (r k)) ≤ rank n r k
@@ -100,8 +101,8 @@ before-trans r i j k first second =
     (λ (far : r k ≤ r j).
     ⊎_elim (λ (e : r k ≡ r i). both (omega arith) (omega arith)) (λ (l : r k < r i). before-larger r i k l)
     (eq-or-lt_of_le (le_trans far near)))
-    (below_or_not (r j) (r k)))
-    (below_or_not (r i) (r j))
+    (cases_lt (r j) (r k)))
+    (cases_lt (r i) (r j))
   where
     both : r i ≡ r j → r j ≡ r k → before r i k ≡ true
     both e e' =

@@ -24,17 +24,20 @@ number_of WrongCell = 15
 number_of ReversedSpan = 16
 number_of ShortPairs = 17
 
--- the refusal number of an answer: "An accepted call has 0 for its refusal number"
+-- the refusal number of an answer, by the number of each refusal: "An accepted call has 0 for its refusal number"
+abbrev pub refusal_by : {A E : Type 0} → (E → ℕ) → Result A E → ℕ
+refusal_by number (Ok answer) = 0
+refusal_by number (Err refusal) = number refusal
+
 abbrev pub refusal_in : {A : Type 0} → Result A Refusal → ℕ
-refusal_in (Ok answer) = 0
-refusal_in (Err refusal) = number_of refusal
+refusal_in = refusal_by number_of
 
 -- what an answer has beside its refusal number; "A refusal returns its number with zeros", which are given here
 abbrev pub value_in : {A : Type 0} → A → Result A Refusal → A
 value_in zeros (Ok answer) = answer
 value_in zeros (Err refusal) = zeros
 
--- grounds by their refusals and their conditions
-abbrev pub grounds_of : List (Refusal × Bool) → List Ground
-grounds_of [] = []
-grounds_of (g ∷ gs) = (number_of g.0, g.1) ∷ grounds_of gs
+-- grounds by their refusals and their conditions, by the number of each refusal
+abbrev pub grounds_by : {E : Type 0} → (E → ℕ) → List (E × Bool) → List Ground
+grounds_by number [] = []
+grounds_by number (g ∷ gs) = (number g.0, g.1) ∷ grounds_by number gs

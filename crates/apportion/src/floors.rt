@@ -1,8 +1,10 @@
 // The floors of pool × weight by the total and their remainders, bit by bit: the product is never formed.
 ghost use Rattle.std.specs.Prelude.{◌≡◌, ◌+◌, ◌*◌, ◌/◌, ◌%◌, ◌≤◌, ◌<◌, length};
-ghost use Rattle.apportion.specs.Places.{list_below, sum_of};
+ghost use Rattle.apportion.specs.Places.{list_below};
 ghost use Rattle.apportion.specs.Dividing.{most_pool, most_total, floor_at, remainder_at, left_over};
-ghost use Rattle.apportion.specs.Inner.Products.{Accepted, Powers};
+ghost use Rattle.apportion.specs.Inner.Products.{Powers};
+
+use crate::pools::WeighedPool;
 
 // A number by its quotient and its remainder.
 #[derive(Clone, Copy, Default)]
@@ -34,21 +36,19 @@ impl Division {
     }
 }
 
-// An accepted pool and total, with pool × 2 ^ bit by the total for each bit that a weight within the total can have.
+// A pool, with pool × 2 ^ bit by the total for each bit that a weight within the total can have.
 #[derive(Drop)]
-pub struct PowersOfPool {
-    pub pool: u64,
-    pub total: u64,
+pub struct PowersOfPool<'a> {
+    of: WeighedPool<'a>,
     by_bit: [Division; 60],
-    ghost accepted: { Accepted pool total },
-    ghost powers: { Powers pool total by_bit },
+    ghost powers: { Powers of.pool of.total by_bit },
 }
 
-impl PowersOfPool {
-    pub fn new(pool: u64, total: u64) -> PowersOfPool
-        requires accepted { Accepted pool total }
-        ensures { (result.pool ≡ pool) × (result.total ≡ total) }
+impl<'a> PowersOfPool<'a> {
+    pub fn new(of: WeighedPool<'a>) -> PowersOfPool<'a>
+        ensures { result.of ≡ of.entry }
     {
+        let WeighedPool { pool, total, .. } = of;
         let mut by_bit = [Division::default(); 60];
         let mut power = Division {
             quotient: pool / total,
@@ -63,41 +63,37 @@ impl PowersOfPool {
             power = power.plus(power, total);
             step += step;
         }
-        PowersOfPool {
-            pool,
-            total,
-            by_bit,
-        }
+        PowersOfPool { of, by_bit }
     }
 
     // pool × weight by the total: the sum of the powers of this pool at the weight's bits.
     #[tactic(auto, using(crate::proofs::Powers::bit_small))]
     fn times(&self, weight: u64) -> Division
-        requires weight_le_total { weight ≤ self.now.total }
-        ensures { (result.quotient ≡ self.now.pool * weight / self.now.total) × (result.remainder ≡ self.now.pool * weight % self.now.total) }
+        requires weight_le_total { weight ≤ self.now.of.total }
+        ensures { (result.quotient ≡ self.now.of.pool * weight / self.now.of.total) × (result.remainder ≡ self.now.of.pool * weight % self.now.of.total) }
     {
         let mut sum = Division::default();
         let mut rest = weight;
         // One turn for each bit that is set: a `for` over all of them costs up to 35 % more.
         while rest > 0 {
             let bit = rest.ilog2();
-            sum = sum.plus(self.by_bit[bit as usize], self.total);
+            sum = sum.plus(self.by_bit[bit as usize], self.of.total);
             rest -= 1 << bit;
         }
         sum
     }
 
-    // Writes each place's floor and remainder, and answers the units left over.
-    pub fn set_floors(&self, weights: &[u64], floors: &mut [u64], remainders: &mut [u64]) -> u64
-        requires total_value { self.now.total ≡ sum_of weights.now }
-        requires floors_len { (length floors.old ≡ length weights.now) × (length remainders.old ≡ length weights.now) }
-        ensures value { result ≡ left_over self.now.pool weights.now }
-        ensures floors_after { floors.new ≡ list_below (length weights.now) (floor_at self.now.pool weights.now) }
-        ensures remainders_after { remainders.new ≡ list_below (length weights.now) (remainder_at self.now.pool weights.now) }
+    // Writes each place's floor and remainder, and answers the units left over. Two slices as long as the weights: the floors are the caller's
+    // shares, also C's.
+    pub fn set_floors(&self, floors: &mut [u64], remainders: &mut [u64]) -> u64
+        requires { (length floors.old ≡ length self.now.of.weights.now) × (length remainders.old ≡ length self.now.of.weights.now) }
+        ensures value { result ≡ left_over self.now.of.pool self.now.of.weights.now }
+        ensures floors_after { floors.new ≡ list_below (length self.now.of.weights.now) (floor_at self.now.of.pool self.now.of.weights.now) }
+        ensures remainders_after { remainders.new ≡ list_below (length self.now.of.weights.now) (remainder_at self.now.of.pool self.now.of.weights.now) }
     {
-        let mut left = self.pool;
+        let mut left = self.of.pool;
         // By index: of a zip over iter_mut the library does not say what was written.
-        for (k, &weight) in weights.iter().enumerate() {
+        for (k, &weight) in self.of.weights.iter().enumerate() {
             let part = self.times(weight);
             floors[k] = part.quotient;
             remainders[k] = part.remainder;

@@ -2,7 +2,7 @@
 ghost use Rattle.std.specs.Prelude.{◌≡◌, ◌+◌, ◌*◌, ◌<◌};
 ghost use Rattle.apportion.specs.Fractions.{nearest, added_by_rounding};
 
-// What rounding adds to a quotient with this remainder by the divisor, 0 or 1.
+// What rounding adds to a quotient with this remainder by the divisor, 0 or 1; not the sum, which two of the four callers cap.
 pub fn added_by_rounding(quotient: u64, remainder: u64, divisor: u64) -> u64
     ensures value { result ≡ added_by_rounding quotient remainder divisor }
     ensures result_value { remainder < divisor → quotient + result ≡ nearest (quotient * divisor + remainder) divisor }

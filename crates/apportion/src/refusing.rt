@@ -1,7 +1,7 @@
 // Why a call is refused, and the first of several grounds that holds.
-ghost use Rattle.std.specs.Prelude.{◌≡◌};
+ghost use Rattle.std.specs.Prelude.{◌≡◌, ℕ};
 ghost use Rattle.apportion.specs.Grounds.{first_of};
-ghost use Rattle.apportion.specs.Refusals.{number_of, refusal_in, grounds_of};
+ghost use Rattle.apportion.specs.Refusals.{number_of, refusal_by, refusal_in, grounds_by};
 
 // The grounds of documents 01 and 02, each with its number.
 #[derive(Clone, Copy, Debug, PartialEq, Eq)]
@@ -34,9 +34,10 @@ impl From<Refusal> for u64 {
     }
 }
 
-// Refuses with the first of these grounds whose condition holds.
-pub fn first_of(grounds: &[(Refusal, bool)]) -> Result<(), Refusal>
-    ensures { refusal_in result ≡ first_of (grounds_of grounds.now) }
+// Refuses with the first of these grounds whose condition holds, however the refusals are numbered. A call lists its grounds, as document 01
+// does, in their order; a chain of `?` would not be that list.
+pub fn first_of<E: Copy>(grounds: &[(E, bool)]) -> Result<(), E>
+    ensures { (number : E → ℕ) → refusal_by number result ≡ first_of (grounds_by number grounds.now) }
 {
     for (refusal, holds) in grounds {
         if *holds {
@@ -46,12 +47,9 @@ pub fn first_of(grounds: &[(Refusal, bool)]) -> Result<(), Refusal>
     Ok(())
 }
 
-// The refusal number of an answer: 0 where it is accepted.
+// The refusal number of an answer, 0 where it is accepted: the conversion, for C and for what is printed.
 pub fn refusal_number<T: Copy>(answer: Result<T, Refusal>) -> u64
     ensures { result ≡ refusal_in answer }
 {
-    match answer {
-        Ok(_) => 0,
-        Err(refusal) => refusal.into(),
-    }
+    answer.err().map_or(0, u64::from)
 }

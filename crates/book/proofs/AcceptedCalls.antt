@@ -5,6 +5,7 @@ use mathlib.Core.Path.{◌≡◌, refl}
 use Prim.Native.Nat.{ℕ}
 use lib.Dec.{eqb}
 use borrow.Author.Tests.{eqb-true, not-false}
+use Rattle.std.proofs.lemmas.Bool.{and_parts}
 use Rattle.apportion.specs.Grounds.{Ground}
 use Rattle.book_words.specs.Book.{category_of, is_closed}
 use Rattle.book_words.specs.Measures.{is_amount, is_distance_in, is_kg_per_head}
@@ -15,7 +16,6 @@ use Rattle.book.specs.declared.arguments.QuoteArguments.{QuoteArguments}
 use Rattle.book.specs.Calls.{open_refusal, open_grounds, post_refusal, post_grounds, strike_refusal, strike_grounds}
 use Rattle.book.specs.Calls.{enrol_in_range, enrol_refusal, enrol_grounds, quote_refusal, quote_grounds}
 use Rattle.apportion.proofs.Grounds.{condition_of, none-holds}
-use Rattle.book_words.proofs.Booleans.{both}
 
 -- a category that is not closed
 pub unclosed-zero : (ws : List ℕ) (category : ℕ) → is_closed ws category ≡ false → (category_of ws category).closed ≡ 0
@@ -31,8 +31,8 @@ pub enrol-measured : (here : Category) (a : EnrolArguments) → enrol_in_range h
 enrol-measured here a e =
     let amount = is_amount a.code a.amount in
     let distance = is_distance_in here.kind a.distance in
-    let all = both (amount && distance) (is_kg_per_head a.code a.kg_per_head) e in
-    let two = both amount distance all.0 in
+    let all = and_parts (amount && distance) (is_kg_per_head a.code a.kg_per_head) e in
+    let two = and_parts amount distance all.0 in
     record { amount = two.0; distance = two.1; mass = all.1 }
 
 -- no condition of these grounds holds

@@ -8,6 +8,7 @@ use native.Mathlib.Nat.{eq-zero-or-pos, add-zero}
 use native.Mathlib.Omega.{arith}
 use lib.Dec.{leb, eqb}
 use borrow.Author.Tests.{le-leb, ne_eqb}
+use Rattle.std.proofs.lemmas.Bool.{and_from, and_parts, cases_eq, cases_lt}
 use Rattle.book_words.specs.Book.{categories, category_at, category_of, entries, entry_at, elements, element_at, most_categories, most_entries, most_elements, with_shares}
 use Rattle.book_words.specs.Measures.{between, is_group, unsuited_group}
 use Rattle.book_words.specs.Mixture.{mixes, mixed}
@@ -17,11 +18,10 @@ use Rattle.book_words.specs.Totals.{unstruck, all_unstruck, unstruck_of, share_o
 use Rattle.book_words.specs.declared.records.Category.{Category}
 use Rattle.book_words.specs.declared.records.Element.{Element}
 use Rattle.book_words.specs.declared.records.Entry.{Entry}
-use Rattle.apportion.proofs.Sums.{sum-cong, below_or_not, sum-le}
-use Rattle.book_words.proofs.Booleans.{and_both, both}
+use Rattle.apportion.proofs.Sums.{sum-cong, sum-le}
 use Rattle.book_words.proofs.CappedSums.{within-parts}
 use Rattle.book_words.proofs.SoundTests.{limits-limited}
-use Rattle.book_words.proofs.SameRecords.{same_or_not, entries-kept, elements-kept}
+use Rattle.book_words.proofs.SameRecords.{entries-kept, elements-kept}
 use Rattle.book_words.proofs.Ranges.{between-low, between-high}
 use Rattle.book_words.proofs.RecordRules.{entry-inside, entry-numbered, element-quoted, element-inside, element-numbered}
 use Rattle.book_words.proofs.RecordsAfterWrite.{struck_entry, EntryStruck, CategoryAdded, EntryAdded, ElementAdded}
@@ -45,7 +45,7 @@ module _ (ws ws' : List ℕ) (carried : Carried ws ws') where
       let low = between-low 1 (categories ws) r.category inside in
       let high = between-high 1 (categories ws) r.category inside in
       let most = le-leb r.category (categories ws') (omega (arith, carried.no_fewer)) in
-      sym (entry-numbered ws' r (and_both (leb 1 r.category) (leb r.category (categories ws')) (le-leb 1 r.category low) most))
+      sym (entry-numbered ws' r (and_from (leb 1 r.category) (leb r.category (categories ws')) (le-leb 1 r.category low) most))
       ∙ ap (λ (k : Category). entry_suits k r) (carried_of r.category low high)
       ∙ entry-numbered ws r inside
       ∙ e
@@ -69,7 +69,7 @@ in_category k s r = cond (eqb r.category k) (unstruck s r) 0
 
 -- a place of a list with one record more is an old one, or the last
 last : {A : Type 0} (n p : ℕ) → p < n + 1 → (p < n → A) → (p ≡ n → A) → A
-last n p h old new = ⊎_elim (λ (i : p < n). old i) (λ (i : n ≤ p). new (omega arith)) (below_or_not p n)
+last n p h old new = ⊎_elim (λ (i : p < n). old i) (λ (i : n ≤ p). new (omega arith)) (cases_lt p n)
 
 module _ (ws ws' : List ℕ) where
   -- the categories are the same
@@ -105,8 +105,8 @@ module _ (ws ws' : List ℕ) where
       let inside = between 1 (categories ws) r.category in
       let category = category_of ws r.category in
       let rules = is_group r.group && not (unsuited_group category.kind r.group) && leb r.operation most_amount && leb r.provision most_amount in
-      let parts = both inside (rules && leb r.struck 1) e in
-      and_both inside (rules && true) parts.0 (and_both rules true (both rules (leb r.struck 1) parts.1).0 refl)
+      let parts = and_parts inside (rules && leb r.struck 1) e in
+      and_from inside (rules && true) parts.0 (and_from rules true (and_parts rules (leb r.struck 1) parts.1).0 refl)
 
   struck-less : (place : ℕ) → EntryStruck ws ws' place → (s : Side) → all_unstruck ws' s ≤ all_unstruck ws s
   unfolding all_unstruck
@@ -117,7 +117,7 @@ module _ (ws ws' : List ℕ) where
       ⊎_elim
       (λ (e : p ≡ place). omega (arith, ap (λ (q : ℕ). unstruck s (entry_at ws' q)) e ∙ ap (unstruck s) a.entry-struck))
       (λ (ne : p ≡ place → ⊥). omega (arith, ap (unstruck s) (a.entry_kept p ne)))
-      (same_or_not p place)))
+      (cases_eq p place)))
 
   struck-elsewhere : (place : ℕ) → EntryStruck ws ws' place → (k : ℕ) (s : Side) → ((entry_at ws place).category ≡ k → ⊥) → unstruck_of ws' k s ≡ unstruck_of ws k s
   unfolding unstruck_of
@@ -134,7 +134,7 @@ module _ (ws ws' : List ℕ) where
       ∙ none (struck_entry (entry_at ws place)) other
       ∙ sym (ap (λ (q : ℕ). in_category k s (entry_at ws q)) e ∙ none (entry_at ws place) other))
       (λ (ne : p ≡ place → ⊥). ap (in_category k s) (a.entry_kept p ne))
-      (same_or_not p place)))
+      (cases_eq p place)))
     where
       none : (r : Entry) → (r.category ≡ k → ⊥) → cond (eqb r.category k) (unstruck s r) 0 ≡ 0
       none r ne = rw (ne_eqb r.category k ne)
@@ -224,7 +224,7 @@ module _ (ws ws' : List ℕ) where
             ∙ entry-carried ws ws' carried (struck_entry (entry_at ws place)) (struck-fine (entry_at ws place) (w.each-entry place h)))
             (λ (ne : p ≡ place → ⊥).
             ap (entry_fine ws') (a.entry_kept p ne) ∙ entry-carried ws ws' carried (entry_at ws p) (w.each-entry p (omega (arith, a.same_entries))))
-            (same_or_not p place);
+            (cases_eq p place);
         each-element = elements-fine w carried a.same_elements a.element_kept;
         unmixed = elements-unmixed w a.same_elements a.element_kept;
         limited = λ s. omega (arith, struck-less place a s, element-sums.0 0 s, w.limited s);

@@ -8,6 +8,7 @@ use borrow.Author.Tests.{not-true, not-false}
 use Rattle.apportion.specs.Grounds.{accepted, Ground, first_of}
 use Rattle.apportion.specs.Inner.Grounds.{grounds_before}
 use Rattle.book_words.specs.Measures.{standard_activity}
+use Rattle.book_words.specs.Soundness.{sound}
 use Rattle.book_words.specs.Totals.{sums_of, with_entry, with_element, within_limits, passes_limits}
 use Rattle.book_words.specs.Inner.Steps.{capped, cap_sums}
 use Rattle.book_words.specs.declared.totals.Sums.{Sums}
@@ -58,7 +59,7 @@ module _ (sums : Sums) where
       )
 
 -- what a call with this refusal number answers and leaves, with the sums of the book that is left
-abbrev Answered : ℕ → ℕ → List ℕ → List ℕ → Reply → List ℕ → Sums → Type 0
+abbrev pub Answered : ℕ → ℕ → List ℕ → List ℕ → Reply → List ℕ → Sums → Type 0
 Answered refusal number new old reply after sums =
     (reply ≡ reply_of refusal number) × ((after ≡ accepted refusal new old) × (sums ≡ sums_of after))
 
@@ -95,3 +96,21 @@ record-decided with-record add new cap gs number ws {sums = sums} {left = left} 
         → Answered (cond b 10 0) number (add ws new) ws r after left
     go true e a = a
     go false e a = (a.0, (a.1.0 ∙ ap (add ws) (alike.1 e), a.1.1))
+
+-- so of the reply and the book alone, where the sums are the book's; and where the sums with the record are within their limits, the
+-- book with it is the call's
+module _ {R : Type 0} (with-record : Sums → R → Sums) (add : List ℕ → R → List ℕ) (new cap : R) (gs : List Ground) (ws : List ℕ) {made : R}
+    (numbered : are_numbered gs ≡ true) (ten : grounds_from 10 gs ≡ (10, passes_limits (with-record (sums_of ws) new)) ∷ [])
+    (none : 0 ≡ first_of (grounds_before 10 gs)) (made-is : made ≡ cap) (alike : Alike (with-record (sums_of ws)) cap new) where
+  pub call-decided : (number : ℕ) {r : Reply} {after : List ℕ}
+      → (r ≡ reply_of (ten_of (with-record (sums_of ws) made)) number) × (after ≡ accepted (ten_of (with-record (sums_of ws) made)) (add ws made) ws)
+      → (r ≡ reply_of (first_of gs) number) × (after ≡ accepted (first_of gs) (add ws new) ws)
+  call-decided number gave =
+      let decided = record-decided with-record add new cap gs number ws numbered ten none refl made-is alike (gave.0, (gave.1, refl)) in
+      (decided.0, decided.1.0)
+
+  pub call-suits : sound (accepted (first_of gs) (add ws new) ws) ≡ true → within_limits (with-record (sums_of ws) made) ≡ true
+      → sound (add ws made) ≡ true
+  call-suits fine within =
+      let left : accepted (ten_of (with-record (sums_of ws) made)) (add ws made) ws ≡ accepted (first_of gs) (add ws new) ws = (call-decided 0 (refl, refl)).1 in
+      ap sound (rw within at left) ∙ fine

@@ -14,6 +14,7 @@ use lib.Dec.{eqb}
 use lib.ListN.{length, length-set, get_or-append, drop}
 use lib.Seq.{get_or-set_same, get_or-set_other}
 use borrow.Author.Tests.{le-leb, le-ltb, lt-ltb, ne_eqb, leb-false, not-false}
+use Rattle.std.proofs.lemmas.Bool.{and_from, and_parts}
 use Rattle.apportion.specs.Places.{at, list_below, one_if}
 use Rattle.book_words.specs.Book.{mark, book_length, categories, most_categories, entries, most_entries, elements, most_elements}
 use Rattle.book_words.specs.Book.{category_of, entry_at, element_at, is_closed}
@@ -39,7 +40,7 @@ use Rattle.book.specs.Walk.{with_total, StatementWalk}
 use Rattle.apportion.proofs.Grounds.{or-none, refused-old, either, not-given}
 use Rattle.apportion.proofs.Sums.{sum-zero}
 use Rattle.apportion.proofs.Lists.{filled, filled-length, list_length, list_at}
-use Rattle.book_words.proofs.Booleans.{and_both, both, cond_same}
+use Rattle.book_words.proofs.Booleans.{cond_same}
 use Rattle.book_words.proofs.CappedSums.{within-parts}
 use Rattle.book_words.proofs.SoundTests.{sound-counted}
 use Rattle.book_words.proofs.Passengers.{others-mix-not}
@@ -60,7 +61,7 @@ use Rattle.book_shares.proofs.CloseAccepted.{accepted-closing}
 use Rattle.book.proofs.StatementWalk.{walk-holds}
 pub use Rattle.book_shares.proofs.Laws.{close-refused, close-closed, shares-handed, share-near-exact, close-sound}
 pub use Rattle.book.proofs.StatementWalk.{StatementWithin, statement-within, class-total-within}
-pub use Rattle.book.proofs.StatementWalk.{held_next, held_fits, chain-alone, held-statement, held-total}
+pub use Rattle.book.proofs.StatementWalk.{held_next, held_fits, held-fit, chain-alone, held-statement, held-total}
 
 module _ (ws : List ℕ) where
   -- where ground 1 does not hold, the book is there
@@ -146,7 +147,7 @@ module _ (ws : List ℕ) where
         (λ e w.
         let none = opened ws kind e in
         open-keeps ws (open_book ws kind) (record { kind = kind; closed = 0 }) w (open-added e)
-        (leb-false most_categories (categories ws) (none 8)) (and_both (is_kind kind) true (not-false (is_kind kind) (none 3)) refl) refl)
+        (leb-false most_categories (categories ws) (none 8)) (and_from (is_kind kind) true (not-false (is_kind kind) (none 3)) refl) refl)
 
     -- an opening leaves the sums as they are
     pub open-sums : sums_of (open_book ws kind) ≡ sums_of ws
@@ -265,7 +266,7 @@ module _ (ws : List ℕ) where
         let none = enrolled ws e z in
         let category = category_of ws e.category in
         let numbered = not-false (between 1 (categories ws) e.category) (none 2) in
-        let known = both (is_chain e.chain) (is_code e.code) (not-false (is_chain e.chain && is_code e.code) (none 3)) in
+        let known = and_parts (is_chain e.chain) (is_code e.code) (not-false (is_chain e.chain && is_code e.code) (none 3)) in
         let measured = enrol-measured category e (not-false (enrol_in_range category e) (none 7)) in
         let low = between-low 1 (categories ws) e.category numbered in
         sym (element-numbered ws enrolled-one (λ is. omega arith) (between-high 1 (categories ws) e.category numbered))
@@ -298,7 +299,7 @@ module _ (ws : List ℕ) where
     quoted-fine : quote_refusal ws q ≡ 0 → element_fine ws (quoted_element q) ≡ true
     quoted-fine e =
         let none = quoted ws q e in
-        let known = both (is_chain q.chain) (is_adjust q.adjust) (not-false (is_chain q.chain && is_adjust q.adjust) (none 3)) in
+        let known = and_parts (is_chain q.chain) (is_adjust q.adjust) (not-false (is_chain q.chain && is_adjust q.adjust) (none 3)) in
         let measured = quote-measured q (not-false (quote_in_range q) (none 7)) in
         sym (element-quoted ws (quoted_element q) refl) ∙ quoted-suits (quoted_element q) known.0 measured.mass measured.distance refl refl refl
 

@@ -4,12 +4,12 @@ use mathlib.Core.Path.{ap, ◌≡◌, ◌∙◌, sym}
 use Prim.Native.Nat.{ℕ, ◌*◌, ◌/◌, ◌+◌, ◌%◌}
 use native.Mathlib.Nat.{div-add-mod'}
 use native.Mathlib.Omega.{arith}
+use Rattle.std.proofs.lemmas.Bool.{and_parts}
 use Rattle.apportion.specs.Fractions.{nearest, added_by_rounding}
 use Rattle.book_words.specs.Inner.Steps.{capped}
 use Rattle.book_words.specs.Measures.{is_mass, is_distance, is_intensity}
 use Rattle.book.specs.declared.arguments.QuoteArguments.{QuoteArguments}
 use Rattle.book.specs.Calls.{quote_in_range}
-use Rattle.book_words.proofs.Booleans.{both}
 use Rattle.book_words.proofs.CappedSums.{capped-add, capped-rounded}
 
 -- a product by the thousands of its second factor and what is left of it
@@ -38,7 +38,7 @@ pub record Measures (q : QuoteArguments) : Type 0 where
 pub quote-measured : (q : QuoteArguments) → quote_in_range q ≡ true → Measures q
 quote-measured q e =
     let three = is_mass q.mass && is_distance q.distance && is_intensity q.operation_intensity in
-    let all = both three (is_intensity q.provision_intensity) e in
-    let first = both (is_mass q.mass && is_distance q.distance) (is_intensity q.operation_intensity) all.0 in
-    let two = both (is_mass q.mass) (is_distance q.distance) first.0 in
+    let all = and_parts three (is_intensity q.provision_intensity) e in
+    let first = and_parts (is_mass q.mass && is_distance q.distance) (is_intensity q.operation_intensity) all.0 in
+    let two = and_parts (is_mass q.mass) (is_distance q.distance) first.0 in
     record { mass = two.0; distance = two.1; operation = first.1; provision = all.1 }

@@ -9,6 +9,7 @@ use native.Mathlib.Numerals.{add-one}
 use native.Mathlib.Omega.{arith}
 use lib.Dec.{eqb, leb}
 use borrow.Author.Tests.{eq-eqb, ne_eqb, le-leb, lt-leb}
+use Rattle.std.proofs.lemmas.Bool.{and_from}
 use Rattle.apportion.specs.Places.{one_if, sum_below}
 use Rattle.book_words.specs.Book.{elements, most_elements, element_at}
 use Rattle.book_words.specs.Measures.{between, most_chains}
@@ -20,11 +21,11 @@ use Rattle.book.specs.Statements.{StatementReply}
 use Rattle.book.specs.ClassTotal.{class_total}
 use Rattle.book.specs.Inner.Chains.{of_chains}
 use Rattle.book.specs.declared.walks.Held.{Held}
-use Rattle.book.specs.Walk.{held_after, held_with, walk_over, with_total}
+use Rattle.book.specs.Walk.{HeldFits, held_after, held_with, walk_over, with_total}
 use Rattle.book.specs.Statements.{elements_over, waiting_over, shares_over, statement_over, waits, of_chain, statement_of}
 use Rattle.book_words.specs.declared.records.Element.{Element}
 use Rattle.apportion.proofs.Sums.{order, sum-next, sum-le, sum-cong, sum-add, sum_more, count_most}
-use Rattle.book_words.proofs.Booleans.{and_both, cond-most}
+use Rattle.book_words.proofs.Booleans.{cond-most}
 use Rattle.book_words.proofs.ShareSums.{chain-inside, shares-limited}
 use Rattle.book_words.proofs.SoundTests.{sound-counted}
 
@@ -129,6 +130,12 @@ module _ (ws : List ℕ) (test : Element → Bool) where
       let shares = held-most fine k h in
       rw is (omega (arith, few, counts), omega (arith, few, counts), shares.0, shares.1)
 
+  -- and the total of its sums in 64 bits
+  pub held-fit : sound ws ≡ true → (k : ℕ) → k ≤ elements ws → {held : Held} → held ≡ held_after ws test k → HeldFits held
+  held-fit fine k h is =
+      let fits = held_fits fine k h is in
+      record { operation_most = fits.2; provision_most = fits.3 }
+
   -- after all elements it is the statement over those that pass
   held_all : with_total (held_after ws test (elements ws)) ≡ statement_over ws test
   unfolding held_after elements_over waiting_over shares_over
@@ -188,7 +195,7 @@ over-all ws fine =
     all : (p : ℕ) → p < elements ws → own p ≡ true
     all p h =
         let inside = chain-inside ws fine p h in
-        and_both (leb 1 (element_at ws p).chain) (leb (element_at ws p).chain most_chains) (le-leb _ _ inside.0) (le-leb _ _ inside.1)
+        and_from (leb 1 (element_at ws p).chain) (leb (element_at ws p).chain most_chains) (le-leb _ _ inside.0) (le-leb _ _ inside.1)
 
     shares : (side : Side) → shares_over ws (of_chains 1 most_chains) side ≡ sum_below n (λ p. share_of side (element_at ws p))
     shares side = sum-cong n (λ p. cond (own p) (share_of side (element_at ws p)) 0) (λ p. share_of side (element_at ws p)) (λ p h. rw (all p h))

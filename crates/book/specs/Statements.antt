@@ -23,6 +23,10 @@ pub record StatementReply : Type 0 where
   pub provision : ℕ
   pub total : ℕ
 
+-- these without the refusal number, in the order in which they are printed
+abbrev pub statement_numbers : StatementReply → List ℕ
+statement_numbers s = s.elements ∷ s.waiting ∷ s.operation ∷ s.provision ∷ s.total ∷ []
+
 -- an element of this chain
 abbrev pub of_chain : ℕ → Element → Bool
 of_chain chain e = eqb e.chain chain

@@ -1,9 +1,9 @@
 -- The walk of a statement: "amounts and waiting count are to come from one walk over the elements". Assumes nothing.
-use Rattle.std.specs.Prelude.{Bool, cond, ◌&&◌, List, ◌≡◌, ℕ, zero, suc, ◌+◌}
+use Rattle.std.specs.Prelude.{Bool, cond, ◌&&◌, List, ◌≡◌, ◌≤◌, ℕ, zero, suc, ◌+◌}
 use Rattle.apportion.specs.Places.{sum_below, count_below, one_if}
 use Rattle.book_words.specs.Book.{element_at, elements}
 use Rattle.book_words.specs.declared.totals.Side.TheVariants.{Operation as operation, Provision as provision}
-use Rattle.book_words.specs.Totals.{share_of}
+use Rattle.book_words.specs.Totals.{most_emissions, share_of}
 use Rattle.book_words.specs.declared.records.Element.{Element}
 use Rattle.book.specs.Statements.{StatementReply}
 use Rattle.book.specs.declared.walks.Held.{Held}
@@ -52,6 +52,11 @@ with_total held =
       provision = held.provision;
       total = held.operation + held.provision;
     }
+
+-- sums within the limits of a book, 10^18, so that the total fits in 64 bits
+pub record HeldFits (held : Held) : Type 0 where
+  pub operation_most : held.operation ≤ most_emissions
+  pub provision_most : held.provision ≤ most_emissions
 
 -- the walk of a statement: what it holds "for every k up to the last, and the reply is what it then holds, with the total"
 pub record StatementWalk (ws : List ℕ) (chain : ℕ) : Type 0 where

@@ -1,6 +1,6 @@
 // The arguments of the calls that take several, each with its name and in its place of documents 01 and 02. Groups and codes are numbers
 // and no enums: a call may be given any, and its grounds judge them.
-use workbook::Line;
+use workbook::{Cell, Line};
 
 #[derive(Clone, Copy)]
 pub struct PostArguments {
@@ -19,7 +19,7 @@ pub struct LineArguments {
     pub category: u64,
     // As of a post.
     pub group: u64,
-    pub line: Line,
+    pub line: Line<Cell>,
 }
 
 #[derive(Clone, Copy)]

@@ -5,6 +5,7 @@ ghost use Rattle.book_shares.specs.Closing.{close_refusal, close_book};
 
 use crate::sound_books::SoundBook;
 use apportion::Refusal;
+use book_words::SoundWords;
 
 // Closes the category of this number.
 #[tactic(auto, unfolding(book_shares::specs::Closing::close_refusal, book_shares::specs::Closing::close_book))]
@@ -12,9 +13,7 @@ pub fn close(book: &mut [u64], category: u64) -> Result<(), Refusal>
     ensures value { refusal_in result ≡ close_refusal book.old category }
     ensures book_after { book.new ≡ close_book book.old category }
 {
-    if !book_words::is_sound(book) {
-        return Err(Refusal::Unfit);
-    }
+    SoundWords::tested(book)?;
     book_shares::close_sound(book, category)
 }
 

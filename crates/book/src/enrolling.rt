@@ -5,16 +5,13 @@ ghost use Rattle.apportion.specs.Inner.Grounds.{grounds_before};
 ghost use Rattle.apportion.specs.Refusals.{refusal_in};
 ghost use Rattle.book_words.specs.Book.{category_of};
 ghost use Rattle.book_words.specs.Measures.{is_code};
-ghost use Rattle.book_words.specs.Soundness.{sound};
-ghost use Rattle.book_words.specs.Totals.{sums_of};
 ghost use Rattle.book.specs.Calls.{enrol_reply, enrol_book, enrol_in_range, enrol_grounds, enrolled_element};
 ghost use Rattle.book.specs.Replies.{reply_in};
 
-use crate::appending;
 use crate::arguments::EnrolArguments;
 use crate::sound_books::SoundBook;
 use apportion::{Refusal, first_of};
-use book_words::{Category, Element, Record, SoundWords, Sums};
+use book_words::{Category, Element, Record, SoundWords};
 
 // Enrols an element in a category, and answers its number.
 #[tactic(auto, unfolding(crate::specs::Calls::enrol_refusal, crate::specs::Calls::enrol_reply, crate::specs::Calls::enrol_book))]
@@ -22,23 +19,8 @@ pub fn enrol(book: &mut [u64], e: EnrolArguments) -> Result<u64, Refusal>
     ensures value { reply_in result ≡ enrol_reply book.old e }
     ensures book_after { book.new ≡ enrol_book book.old e }
 {
-    if !book_words::is_sound(book) {
-        return Err(Refusal::Unfit);
-    }
-    let mut sums = SoundWords::of(book).sums();
-    enrol_sound(book, &mut sums, e)
-}
-
-// The same on a book that is known to be sound and whose sums are known; a free function, as sound_books.rt says.
-fn enrol_sound(book: &mut [u64], sums: &mut Sums, e: EnrolArguments) -> Result<u64, Refusal>
-    requires book_value { sound book.old ≡ true }
-    requires sums_value { sums.old ≡ sums_of book.old }
-    ensures value { reply_in result ≡ enrol_reply book.old e }
-    ensures book_after { book.new ≡ enrol_book book.old e }
-    ensures sums_after { sums.new ≡ sums_of book.new }
-{
-    let category = check_grounds(&SoundWords::of(book), e)?;
-    appending::admit(book, sums, enrolled(category, e))
+    let sums = SoundWords::tested(book)?.sums();
+    SoundBook { words: book, sums }.enrol(e)
 }
 
 impl SoundBook<'_> {
@@ -48,7 +30,9 @@ impl SoundBook<'_> {
         ensures book_after { self.new.words.now ≡ enrol_book self.old.words.now e }
         ensures same_words { self.new.words.ghost_name ≡ self.old.words.ghost_name }
     {
-        enrol_sound(self.words, &mut self.sums, e)
+        let words = &mut *self.words;
+        let category = check_grounds(&SoundWords::of(words), e)?;
+        self.admit(enrolled(category, e))
     }
 }
 
@@ -62,7 +46,7 @@ fn check_grounds(book: &SoundWords, e: EnrolArguments) -> Result<Category, Refus
         .ok_or(Refusal::Unnumbered)?;
     let elements = book.count::<Element>();
     let unknown = !(book_words::is_chain(e.chain) & book_words::is_code(e.code));
-    let closed = category.closed != 0;
+    let closed = category.has_closed();
     let unsuited = book_words::unsuited(category.kind, e.code);
     let mixed = book.mixes(e.category, e.code, e.kg_per_head);
     let out_of_range = !enrol_in_range(category, e);

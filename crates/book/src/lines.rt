@@ -13,6 +13,7 @@ pub fn post_line(book: &mut [u64], l: LineArguments) -> Result<u64, Refusal>
     ensures book_after { book.new ≡ line_book book.old l }
 {
     let converted = workbook::convert(l.line)?;
+    // Field by field: a `From` would take a tuple of category, group and line, in which the first two have no names, and is no plainer.
     let p = PostArguments {
         category: l.category,
         group: l.group,

@@ -16,13 +16,11 @@ pub fn open(book: &mut [u64], kind: u64) -> Result<u64, Refusal>
     ensures value { reply_in result ≡ open_reply book.old kind }
     ensures book_after { book.new ≡ open_book book.old kind }
 {
-    if !book_words::is_sound(book) {
-        return Err(Refusal::Unfit);
-    }
+    SoundWords::tested(book)?;
     open_sound(book, kind)
 }
 
-// The same on a book that is known to be sound; a free function, as sound_books.rt says.
+// The same on a book that is known to be sound: an opening needs no sums, so it is made on the words.
 fn open_sound(book: &mut [u64], kind: u64) -> Result<u64, Refusal>
     requires { sound book.old ≡ true }
     ensures value { reply_in result ≡ open_reply book.old kind }

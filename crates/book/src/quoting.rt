@@ -5,18 +5,15 @@ ghost use Rattle.apportion.specs.Grounds.{first_of};
 ghost use Rattle.apportion.specs.Inner.Grounds.{grounds_before};
 ghost use Rattle.apportion.specs.Refusals.{refusal_in};
 ghost use Rattle.book_words.specs.Measures.{is_distance, is_intensity};
-ghost use Rattle.book_words.specs.Soundness.{sound};
-ghost use Rattle.book_words.specs.Totals.{sums_of};
 ghost use Rattle.book_words.specs.Inner.Steps.{capped};
 ghost use Rattle.book.specs.Inner.Appending.{cap_shares};
 ghost use Rattle.book.specs.Calls.{quote_reply, quote_book, quote_in_range, quote_grounds, quoted_element, adjusted};
 ghost use Rattle.book.specs.Replies.{reply_in};
 
-use crate::appending;
 use crate::arguments::QuoteArguments;
 use crate::sound_books::SoundBook;
 use apportion::{Refusal, added_by_rounding, first_of};
-use book_words::{Element, Record, SoundWords, Sums};
+use book_words::{Element, Record, SoundWords};
 
 // The largest intensity, 10^9 mg per tonne-km.
 const MOST_INTENSITY: u64 = 1_000_000_000;
@@ -30,23 +27,8 @@ pub fn quote(book: &mut [u64], q: QuoteArguments) -> Result<u64, Refusal>
     ensures value { reply_in result ≡ quote_reply book.old q }
     ensures book_after { book.new ≡ quote_book book.old q }
 {
-    if !book_words::is_sound(book) {
-        return Err(Refusal::Unfit);
-    }
-    let mut sums = SoundWords::of(book).sums();
-    quote_sound(book, &mut sums, q)
-}
-
-// The same on a book that is known to be sound and whose sums are known; a free function, as sound_books.rt says.
-fn quote_sound(book: &mut [u64], sums: &mut Sums, q: QuoteArguments) -> Result<u64, Refusal>
-    requires book_value { sound book.old ≡ true }
-    requires sums_value { sums.old ≡ sums_of book.old }
-    ensures value { reply_in result ≡ quote_reply book.old q }
-    ensures book_after { book.new ≡ quote_book book.old q }
-    ensures sums_after { sums.new ≡ sums_of book.new }
-{
-    check_grounds(&SoundWords::of(book), q)?;
-    appending::admit(book, sums, quoted(q))
+    let sums = SoundWords::tested(book)?.sums();
+    SoundBook { words: book, sums }.quote(q)
 }
 
 impl SoundBook<'_> {
@@ -56,7 +38,9 @@ impl SoundBook<'_> {
         ensures book_after { self.new.words.now ≡ quote_book self.old.words.now q }
         ensures same_words { self.new.words.ghost_name ≡ self.old.words.ghost_name }
     {
-        quote_sound(self.words, &mut self.sums, q)
+        let words = &mut *self.words;
+        check_grounds(&SoundWords::of(words), q)?;
+        self.admit(quoted(q))
     }
 }
 
@@ -101,7 +85,8 @@ fn quoted(q: QuoteArguments) -> Element
 }
 
 // Intensity × product / 1000, nearest, halves to even, capped; the product is mass × D. With the intensity it passes 64
-// bits, so its thousands are multiplied apart from what is left of it.
+// bits, so its thousands are multiplied apart from what is left of it: no one function with `quotient` of `book_shares`, whose divisor is
+// too large for that.
 fn nearest_thousandth(intensity: u64, product: u64) -> u64
     requires { is_intensity intensity ≡ true }
     ensures { result ≡ capped (nearest (intensity * product) 1000) }

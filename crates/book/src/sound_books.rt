@@ -1,5 +1,6 @@
 // A lent book that is known to be sound, with the sums of ground 10: many calls can be made on it after one test.
-// What these calls share stays free functions over the words: a part of a `&mut self` that is lent to be read loses what is known of it.
+// Each method promises `same_words`: without it, it could put another slice into the field, and nothing would be said of the caller's.
+// Where a call first reads the words, it takes them as `&mut *self.words`: a part of `self` that is lent by `&` loses what is known of it.
 ghost use Rattle.std.specs.Prelude.{true, ◌≡◌};
 ghost use Rattle.book_words.specs.Soundness.{sound};
 ghost use Rattle.book_words.specs.Totals.{sums_of};

@@ -28,11 +28,5 @@ fn walk(book: &SoundWords, chain: u64) -> Statement
     for passed in 0..count {
         held = walks::walk_on(book, chain, chain, passed, held);
     }
-    Statement {
-        elements: held.elements,
-        waiting: held.waiting,
-        operation: held.operation,
-        provision: held.provision,
-        total: held.operation + held.provision,
-    }
+    held.with_total()
 }

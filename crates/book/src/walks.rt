@@ -3,13 +3,14 @@ ghost use Rattle.std.specs.Prelude.{◌≡◌, ◌+◌, ◌≤◌, ◌<◌};
 ghost use Rattle.apportion.specs.Places.{one_if};
 ghost use Rattle.book_words.specs.Book.{categories, elements};
 ghost use Rattle.book.specs.Inner.Chains.{of_chains};
-ghost use Rattle.book.specs.Statements.{waits};
-ghost use Rattle.book.specs.Walk.{held_after};
+ghost use Rattle.book.specs.Statements.{waits, reply_with};
+ghost use Rattle.book.specs.Walk.{HeldFits, held_after, with_total};
 
+use crate::replies::Statement;
 use book_words::{Category, Element, SoundWords};
 
 // What a walk holds, over those of the elements passed that it asks for.
-#[derive(Clone, Copy)]
+#[derive(Clone, Copy, Default)]
 pub struct Held {
     // How many there are, and how many of them are in open categories.
     pub elements: u64,
@@ -19,7 +20,23 @@ pub struct Held {
     pub provision: u64,
 }
 
-// What it holds at its start.
+impl Held {
+    // What is held, with the total.
+    pub fn with_total(self) -> Statement
+        requires { HeldFits self }
+        ensures { reply_with result ≡ with_total self }
+    {
+        Statement {
+            elements: self.elements,
+            waiting: self.waiting,
+            operation: self.operation,
+            provision: self.provision,
+            total: self.operation + self.provision,
+        }
+    }
+}
+
+// What it holds at its start: `Held::default()`, as a constant that is given out.
 pub const NOTHING: Held = Held {
     elements: 0,
     waiting: 0,
@@ -27,7 +44,8 @@ pub const NOTHING: Held = Held {
     provision: 0,
 };
 
-// One element more: what the walk over the elements of the chains from `first` to `last` holds after it.
+// One element more: what the walk over the elements of the chains from `first` to `last` holds after it. Two numbers and no range, as
+// `of_chains` of the definitions takes them.
 pub fn walk_on(book: &SoundWords, first: u64, last: u64, passed: u64, held: Held) -> Held
     requires passed_bound { passed < elements book.now }
     requires held_value { held ≡ held_after book.now (of_chains first last) passed }
@@ -58,5 +76,5 @@ fn waiting_of(book: &SoundWords, e: Element) -> u64
     ensures { result ≡ one_if (waits book.now e) }
 {
     let here = book.numbered::<Category>(e.category);
-    u64::from(here.is_some_and(|r| r.closed == 0))
+    u64::from(here.is_some_and(|r| !r.has_closed()))
 }

@@ -11,11 +11,9 @@ use borrow.Author.Tests.{ltb-false}
 use Rattle.apportion.proofs.Grounds.{condition_of, none-holds, or-none}
 use Rattle.book_words.specs.Book.{book_length}
 use Rattle.book_file.specs.declared.header.Section.{Section}
-use Rattle.book_file.specs.declared.tables.Table.{Table}
-use Rattle.book_file.specs.declared.tables.Table.TheVariants.{Categories, Entries, Elements, Closings}
 use Rattle.book_file.specs.File.{header_length, categories_in, entries_in, elements_in, record_at, section_end}
 use Rattle.book_file.specs.File.{misplaced, wrong_sections, header_grounds, header_refusal}
-use Rattle.book_file.specs.Loading.{section_of}
+use Rattle.book_file.specs.Loading.{Table, Categories, Entries, Elements, Closings, section_of}
 
 -- a section that starts and ends where it may
 record Placed (earliest : ℕ) (section : Section) (file_length : ℕ) : Type 0 where

@@ -8,7 +8,7 @@ use native.Mathlib.Omega.{arith}
 use borrow.Author.Tests.{le-leb, lt-leb}
 use lib.ListN.{length, take, drop, replicate, get_or-replicate}
 use lib.Seq.{get_or-drop, get_or-take}
-use Rattle.apportion.proofs.Sums.{below_or_not}
+use Rattle.std.proofs.lemmas.Bool.{cases_lt}
 use Rattle.book_file.specs.Bytes.{little_endian, number_at}
 
 -- what the bytes of a part spell stands in the whole
@@ -32,4 +32,4 @@ number_read n bytes at b inside past =
     ⊎_elim
     (λ (h : length bytes < at + n). rw (lt-leb (at + n) (length bytes) h, past h) (zeros_spell n n 0 (omega arith)))
     (λ (h : at + n ≤ length bytes). rw (le-leb (at + n) (length bytes) h, inside h) (in_part n n 0 bytes at (omega arith) ∙ rw add-zero))
-    (below_or_not (length bytes) (at + n))
+    (cases_lt (length bytes) (at + n))

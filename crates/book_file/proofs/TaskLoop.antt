@@ -8,6 +8,7 @@ use native.Mathlib.Nat.{eq-or-lt_of_le}
 use native.Mathlib.Numerals.{add-one}
 use native.Mathlib.Omega.{arith}
 use Rattle.std.proofs.Common.{Result, Ok, Err}
+use Rattle.std.specs.Prelude.{MatchResult, IsOkAnd}
 use Rattle.std.specs.Result.{IsErrAnd}
 use Rattle.apportion.specs.Grounds.{accepted}
 use Rattle.apportion.specs.Refusals.{number_of, refusal_in}
@@ -24,8 +25,9 @@ use Rattle.book_file.specs.declared.answers.Place.{Place}
 use Rattle.book_file.specs.declared.answers.Place.TheVariants.{Header, Category, Entry, Element, Closing}
 use Rattle.book_file.specs.declared.answers.Stop.{Stop}
 use Rattle.book_file.specs.Answers.{numbers_of, answer_at}
-use Rattle.book_file.specs.Inner.Steps.{answer_in}
-use Rattle.book_file.specs.Loading.{Task, task_refusal, made}
+use Rattle.book_file.specs.declared.header.Section.{Section}
+use Rattle.book_file.specs.Inner.Steps.{answer_in, made_if}
+use Rattle.book_file.specs.Loading.{Table, Task, task_refusal, made, section_of, is_asked, task_at, tasks_in}
 use Rattle.book_file.specs.Loading.{Loading, loading_of, unless_stopped, next_task, carried_on}
 
 -- the refusal number of a stop
@@ -45,23 +47,29 @@ pub made-stopped : (ws : List ℕ) (task : Task) (n : ℕ) → task_refusal ws t
 unfolding made answer_at
 made-stopped ws task n e = rw e
 
--- a task whose call is made: a refused call leaves the book as it was
-pub made-call : (ws : List ℕ) (task : Task) → task.broken ≡ false
-    → made ws task ≡ loading_of (answer_at (step ws task.call).reply.refusal task.place) (step ws task.call).book
+-- a task whose call was made: a refused call leaves the book as it was
+pub call-made : {ws' : List ℕ} {n : ℕ} (ws : List ℕ) (task : Task) → task.broken ≡ false → n ≡ (step ws task.call).reply.refusal
+    → ws' ≡ (step ws task.call).book → loading_of (answer_at n task.place) ws' ≡ made ws task
 unfolding made
-made-call ws task e =
-    rw e (ap (loading_of (answer_at (step ws task.call).reply.refusal task.place)) (kept (step ws task.call).reply.refusal refl))
+call-made ws task whole refused left =
+    rw (refused, left, whole) (ap (loading_of (answer_at (step ws task.call).reply.refusal task.place)) (kept (step ws task.call).reply.refusal refl))
   where
-    kept : (n : ℕ) → (step ws task.call).reply.refusal ≡ n → accepted n (step ws task.call).book ws ≡ (step ws task.call).book
+    kept : (n : ℕ) → (step ws task.call).reply.refusal ≡ n → (step ws task.call).book ≡ accepted n (step ws task.call).book ws
     kept zero is = refl
-    kept (suc n) is = sym (step-refused ws task.call (λ z. omega (arith, is, z)))
+    kept (suc n) is = step-refused ws task.call (λ z. omega (arith, is, z))
 
--- the same, of what a call gave
-pub call-made : {answer : Load} {ws' : List ℕ} {n : ℕ} (ws : List ℕ) (task : Task) → task.broken ≡ false
-    → (n ≡ (step ws task.call).reply.refusal) × (ws' ≡ (step ws task.call).book)
-    → answer ≡ answer_at n task.place
-    → loading_of answer ws' ≡ made ws task
-call-made ws task whole gave is = rw (is, gave.0, gave.1) (sym (made-call ws task whole))
+-- the same of a call that appends a record, whose number is passed over
+pub appended-made : {ws' : List ℕ} (ws : List ℕ) (task : Task) (answer : Result ℕ Refusal) (done : Result (Unit {0}) Refusal) (P : ℕ → Unit {0} → Type 0)
+    → task.broken ≡ false → MatchResult answer (λ n. IsOkAnd done (P n)) (λ refusal. done ≡ Err refusal) → reply_in answer ≡ (step ws task.call).reply
+    → ws' ≡ (step ws task.call).book → loading_of (answer_at (refusal_in done) task.place) ws' ≡ made ws task
+appended-made ws task answer done P whole passed gave left =
+    call-made ws task whole (of_answer answer done P passed ∙ ap (λ (r : Reply). r.refusal) gave) left
+  where
+    of_answer : (answer : Result ℕ Refusal) (done : Result (Unit {0}) Refusal) (P : ℕ → Unit {0} → Type 0)
+        → MatchResult answer (λ n. IsOkAnd done (P n)) (λ refusal. done ≡ Err refusal) → refusal_in done ≡ (reply_in answer).refusal
+    of_answer (Ok n) (Ok u) P h = refl
+    of_answer (Ok n) (Err refusal) P h = absurd h
+    of_answer (Err refusal) done P h = rw h
 
 -- what holds of a book and of the book after a task's call holds of the book that the task leaves
 made-keeps : (P : List ℕ → Type 0) (ws : List ℕ) (task : Task) → P (step ws task.call).book → P ws → P (made ws task).book
@@ -93,52 +101,53 @@ carried-sound loading (task ∷ tasks) fine = carried-sound (next_task loading t
     of-answer Loaded = made-keeps (λ b. sound b ≡ true) loading.book task (sound-step loading.book task.call fine) fine
     of-answer (Stopped n place) = fine
 
--- the tasks of the places of a table that are asked for
-module _ (start : Loading) (asked : ℕ → Bool) (task : ℕ → Task) where
+-- a table of a load that starts with this book
+module _ (start file : List ℕ) (table : Table) where
+  -- what the load has come to before a place
   abbrev pub through : ℕ → Loading
-  through n = carried_on start (kept_below n asked task)
+  through n = carried_on (loading_of Loaded start) (kept_below n (is_asked file table) (task_at file table))
 
-  -- one place more, where nothing has stopped the load
-  pub through-next : (n : ℕ) (ws : List ℕ) → through n ≡ loading_of Loaded ws
-      → through (n + 1) ≡ cond (asked n) (made ws (task n)) (loading_of Loaded ws)
-  through-next n ws e =
-      rw (add-one)
-      (carried-append start (kept_below n asked task) (cond (asked n) (task n ∷ []) [])
-      ∙ ap (λ l. carried_on l (cond (asked n) (task n ∷ []) [])) e
-      ∙ of_test (asked n))
+  -- one place more
+  abbrev one : ℕ → List Task
+  one n = cond (is_asked file table n) (task_at file table n ∷ []) []
+
+  through-one : (n : ℕ) {loading : Loading} → through n ≡ loading → through (suc n) ≡ carried_on loading (one n)
+  through-one n e =
+      carried-append (loading_of Loaded start) (kept_below n (is_asked file table) (task_at file table)) (one n)
+      ∙ ap (λ (l : Loading). carried_on l (one n)) e
+
+  -- where nothing has stopped the load
+  pub through-next : (n : ℕ) {ws : List ℕ} {next : Loading} → through n ≡ loading_of Loaded ws
+      → next ≡ made_if (is_asked file table n) ws (task_at file table n) → through (n + 1) ≡ next
+  through-next n {ws} e made-so = rw (add-one) (through-one n e ∙ of_test (is_asked file table n) ∙ sym made-so)
     where
-      of_test : (b : Bool) → carried_on (loading_of Loaded ws) (cond b (task n ∷ []) []) ≡ cond b (made ws (task n)) (loading_of Loaded ws)
+      of_test : (b : Bool) → carried_on (loading_of Loaded ws) (cond b (task_at file table n ∷ []) []) ≡ made_if b ws (task_at file table n)
       of_test true = refl
       of_test false = refl
 
+  -- the end of its section
+  pub through-all : (section : Section) → section ≡ section_of file table → (n : ℕ) {loading : Loading} → n ≡ section.count
+      → through n ≡ loading → loading ≡ carried_on (loading_of Loaded start) (tasks_in file table)
+  unfolding tasks_in
+  through-all section is n end e = sym e ∙ ap through (end ∙ ap (λ (s : Section). s.count) is)
+
   -- a stop before the end is that of the whole table
-  pub through-stopped : (k : ℕ) (place : Place) (ws : List ℕ) (n m : ℕ) → n < m → through (n + 1) ≡ loading_of (Stopped k place) ws
-      → through m ≡ loading_of (Stopped k place) ws
-  through-stopped k place ws n zero h e = let z : ⊥ = omega arith in absurd z
-  through-stopped k place ws n (suc m) h e =
-      ⊎_elim
-      (λ (here : suc n ≡ suc m). let same : n + 1 ≡ suc m = omega arith in rw same at e)
-      (λ (before : suc n < suc m).
-      carried-append start (kept_below m asked task) (cond (asked m) (task m ∷ []) [])
-      ∙ ap (λ l. carried_on l (cond (asked m) (task m ∷ []) [])) (through-stopped k place ws n m (omega arith) e)
-      ∙ carried-stopped k place ws (cond (asked m) (task m ∷ []) []))
-      (eq-or-lt_of_le h)
+  pub through-stopped : (section : Section) → section ≡ section_of file table → (n : ℕ) {k : ℕ} {place : Place} {ws' ws : List ℕ}
+      → n < section.count → through n ≡ loading_of Loaded ws' → loading_of (Stopped k place) ws ≡ made_if (is_asked file table n) ws' (task_at file table n)
+      → loading_of (Stopped k place) ws ≡ carried_on (loading_of Loaded start) (tasks_in file table)
+  through-stopped section is n {k} {place} {ws'} {ws} before e made-so =
+      through-all section is section.count refl (later section.count before)
+    where
+      stop : through (n + 1) ≡ loading_of (Stopped k place) ws
+      stop = through-next n e made-so
 
--- tasks behind others: where these stop nothing, they go on with what these left; and where one of these stops the load, it stays so
-pub carried-then : {end : Loading} (start : Loading) (first rest : List Task) (ws : List ℕ) → loading_of Loaded ws ≡ carried_on start first
-    → end ≡ carried_on (loading_of Loaded ws) rest → end ≡ carried_on start (first ++ rest)
-carried-then start first rest ws before behind =
-    behind ∙ ap (λ (l : Loading). carried_on l rest) before ∙ sym (carried-append start first rest)
-
-pub stopped-before : (start : Loading) (first rest : List Task) (n : ℕ) (place : Place) (ws : List ℕ)
-    → loading_of (Stopped n place) ws ≡ carried_on start first → loading_of (Stopped n place) ws ≡ carried_on start (first ++ rest)
-stopped-before start first rest n place ws stop =
-    sym (carried-append start first rest ∙ ap (λ (l : Loading). carried_on l rest) (sym stop) ∙ carried-stopped n place ws rest)
-
--- a refusal's number, by the answer and by the reply
-pub reply-refusal : (answer : Result ℕ Refusal) {reply : Reply} → reply_in answer ≡ reply → refusal_in answer ≡ reply.refusal
-reply-refusal (Ok n) e = ap (λ (r : Reply). r.refusal) e
-reply-refusal (Err refusal) e = ap (λ (r : Reply). r.refusal) e
+      later : (m : ℕ) → n < m → through m ≡ loading_of (Stopped k place) ws
+      later zero h = let z : ⊥ = omega arith in absurd z
+      later (suc m) h =
+          ⊎_elim
+          (λ (here : suc n ≡ suc m). let same : n + 1 ≡ suc m = omega arith in rw same at stop)
+          (λ (behind : suc n < suc m). through-one m (later m (omega arith)) ∙ carried-stopped k place ws (one m))
+          (eq-or-lt_of_le h)
 
 -- the answer that a stop is handed on in
 pub stop-handed : (stop : Stop) (answer : Result (Unit {0}) Stop) → IsErrAnd answer (λ e. e ≡ stop)

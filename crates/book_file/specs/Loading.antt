@@ -4,7 +4,9 @@ use Rattle.apportion.specs.Grounds.{accepted}
 use Rattle.apportion.specs.Places.{kept_below}
 use Rattle.book_words.specs.Measures.{is_passenger}
 use Rattle.book.specs.Calls.{fresh_book}
+use Rattle.book.specs.declared.arguments.EnrolArguments.{EnrolArguments}
 use Rattle.book.specs.declared.arguments.PostArguments.{PostArguments}
+use Rattle.book.specs.declared.arguments.QuoteArguments.{QuoteArguments}
 use Rattle.conservation.specs.declared.Call.{Call}
 use Rattle.conservation.specs.declared.Call.TheVariants.{Open, Post, Enrol, Quote, Close}
 use Rattle.conservation.specs.Runs.{step}
@@ -16,8 +18,6 @@ use Rattle.book_file.specs.declared.answers.Place.TheVariants.{Header, Category,
 use Rattle.book_file.specs.declared.header.Section.{Section}
 use Rattle.book_file.specs.declared.records.CategoryRecord.{CategoryRecord}
 use Rattle.book_file.specs.declared.records.ElementRecord.{ElementRecord}
-use Rattle.book_file.specs.declared.tables.Table.{Table}
-use Rattle.book_file.specs.declared.tables.Table.TheVariants.{Categories, Entries, Elements, Closings}
 use Rattle.book_file.specs.Answers.{numbers_of, answer_at}
 use Rattle.book_file.specs.File.{header_refusal, categories_in, entries_in, elements_in, record_at, category_record, entry_record, element_record}
 
@@ -34,25 +34,36 @@ opening number r = record { place = Category number; broken = ltb 1 r.flag; call
 abbrev pub posting : ℕ → PostArguments → Task
 posting number p = record { place = Entry number; broken = false; call = Post p }
 
+-- an element's fields as the arguments of a quote
+abbrev pub quote_arguments : ElementRecord → QuoteArguments
+quote_arguments r =
+    record {
+      chain = r.chain;
+      adjust = r.adjust;
+      mass = r.amount;
+      distance = r.distance;
+      operation_intensity = r.operation;
+      provision_intensity = r.provision;
+    }
+
 -- "Code must be 0 with category 0"
 abbrev pub quoting : ℕ → ElementRecord → Task
-quoting number r =
+quoting number r = record { place = Element number; broken = not (eqb r.code 0); call = Quote (quote_arguments r) }
+
+-- and as those of an enrolment, whose kg per head is the adjust field
+abbrev pub enrol_arguments : ElementRecord → EnrolArguments
+enrol_arguments r =
     record {
-      place = Element number;
-      broken = not (eqb r.code 0);
-      call = Quote
-          (record {
-            chain = r.chain;
-            adjust = r.adjust;
-            mass = r.amount;
-            distance = r.distance;
-            operation_intensity = r.operation;
-            provision_intensity = r.provision;
-          });
+      category = r.category;
+      chain = r.chain;
+      code = r.code;
+      amount = r.amount;
+      distance = r.distance;
+      kg_per_head = r.adjust;
     }
 
 -- "adjust and intensities must be 0 otherwise"; "In files the adjust field of a passenger element carries it, so 13 no longer wants 0
--- there.": it is the kg per head
+-- there."
 abbrev pub enrolling : ℕ → ElementRecord → Task
 enrolling number r =
     record {
@@ -60,15 +71,7 @@ enrolling number r =
       broken = (not (is_passenger r.code) && not (eqb r.adjust 0))
           || not (eqb r.operation 0)
           || not (eqb r.provision 0);
-      call = Enrol
-          (record {
-            category = r.category;
-            chain = r.chain;
-            code = r.code;
-            amount = r.amount;
-            distance = r.distance;
-            kg_per_head = r.adjust;
-          });
+      call = Enrol (enrol_arguments r);
     }
 
 -- "enrols or quotes": category 0 is that of a quote
@@ -82,6 +85,13 @@ closing number = record { place = Closing number; broken = false; call = Close n
 -- "closes those flagged"
 abbrev pub is_flagged : CategoryRecord → Bool
 is_flagged r = eqb r.flag 1
+
+-- the tables of a load: the categories are two, to be opened, and to be closed if flagged
+pub data Table : Type 0 where
+  Categories : Table
+  Entries : Table
+  Elements : Table
+  Closings : Table
 
 -- the section of a table; a closing is asked for by a category's flag
 abbrev pub section_of : List ℕ → Table → Section

@@ -1,5 +1,5 @@
 // What a load answers.
-ghost use Rattle.std.specs.Prelude.{◌≡◌};
+ghost use Rattle.std.specs.Prelude.{◌≡◌, ℕ};
 ghost use Rattle.apportion.specs.Refusals.{refusal_in};
 ghost use Rattle.book_file.specs.Answers.{place_numbers, numbers_of, answer_at};
 ghost use Rattle.book_file.specs.Inner.Steps.{answer_in};
@@ -26,7 +26,7 @@ pub enum Load {
 }
 
 // An answer as document 01's numbers; zeros where the file is loaded.
-#[derive(Clone, Copy)]
+#[derive(Clone, Copy, Default)]
 pub struct Numbers {
     pub refusal: u64,
     // 0 is the header, 1 categories, 2 entries, 3 elements, 4 closings.
@@ -35,50 +35,36 @@ pub struct Numbers {
     pub record: u64,
 }
 
-// The numbers of an answer.
-pub fn numbers_of(answer: Load) -> Numbers
-    ensures { result ≡ numbers_of answer }
-{
-    match answer {
-        Load::Loaded => Numbers {
-            refusal: 0,
-            table: 0,
-            record: 0,
-        },
-        Load::Stopped(refusal, place) => place_numbers(refusal, place),
+impl Place {
+    // Document 01's number of its table, and that of its record.
+    fn numbers(self) -> (u64, u64)
+        ensures { (refusal : ℕ) → place_numbers refusal self ≡ record { refusal = refusal; table = result.0; «record» = result.1 } }
+    {
+        match self {
+            Place::Header => (0, 0),
+            Place::Category(number) => (1, number),
+            Place::Entry(number) => (2, number),
+            Place::Element(number) => (3, number),
+            Place::Closing(number) => (4, number),
+        }
     }
 }
 
-// The numbers of a stop at a place.
-fn place_numbers(refusal: u64, place: Place) -> Numbers
-    ensures { result ≡ place_numbers refusal place }
-{
-    match place {
-        Place::Header => Numbers {
-            refusal,
-            table: 0,
-            record: 0,
-        },
-        Place::Category(record) => Numbers {
-            refusal,
-            table: 1,
-            record,
-        },
-        Place::Entry(record) => Numbers {
-            refusal,
-            table: 2,
-            record,
-        },
-        Place::Element(record) => Numbers {
-            refusal,
-            table: 3,
-            record,
-        },
-        Place::Closing(record) => Numbers {
-            refusal,
-            table: 4,
-            record,
-        },
+impl From<Load> for Numbers {
+    ghost from_gives = { λ answer numbers. numbers ≡ numbers_of answer };
+
+    fn from(answer: Load) -> Numbers {
+        match answer {
+            Load::Loaded => Numbers::default(),
+            Load::Stopped(refusal, place) => {
+                let (table, record) = place.numbers();
+                Numbers {
+                    refusal,
+                    table,
+                    record,
+                }
+            }
+        }
     }
 }
 
@@ -89,12 +75,10 @@ pub struct Stop {
     pub place: Place,
 }
 
-// A call at a place stops the load where it is refused.
-pub fn stop_at<T: Copy>(answer: Result<T, Refusal>, place: Place) -> Result<(), Stop>
+// What is refused at a place stops the load there.
+#[tactic(auto, unfolding(crate::specs::Answers::answer_at))]
+pub fn stop_at(answer: Result<(), Refusal>, place: Place) -> Result<(), Stop>
     ensures { answer_in result ≡ answer_at (refusal_in answer) place }
 {
-    match answer {
-        Ok(_) => Ok(()),
-        Err(refusal) => Err(Stop { refusal, place }),
-    }
+    answer.map_err(|refusal| Stop { refusal, place })
 }

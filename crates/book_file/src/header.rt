@@ -5,8 +5,9 @@ ghost use Rattle.book_file.specs.File.{header_number, record_at, section_end, wr
 ghost use Rattle.book_file.specs.Loading.{section_of};
 
 use crate::numbers;
-use crate::tables::Table;
+use crate::records::{CategoryRecord, ElementRecord, FileRecord};
 use apportion::{Refusal, first_of};
+use book::PostArguments;
 
 // The bytes of the header, and the most bytes of a file.
 const LENGTH: usize = 32;
@@ -79,27 +80,22 @@ fn are_misplaced(file: &[u8]) -> bool
     ensures { result ≡ wrong_sections file.now }
 {
     let length = file.len();
-    let categories = section_of(file, Table::Categories);
-    let entries = section_of(file, Table::Entries);
-    let elements = section_of(file, Table::Elements);
+    let categories = section_of::<CategoryRecord>(file);
+    let entries = section_of::<PostArguments>(file);
+    let elements = section_of::<ElementRecord>(file);
     categories.is_misplaced(LENGTH, length)
         | entries.is_misplaced(categories.end(), length)
         | elements.is_misplaced(entries.end(), length)
 }
 
-// The section of a table: its count is a number of the header, and its offset the next.
-pub fn section_of(file: &[u8], table: Table) -> Section
-    ensures { result ≡ section_of file.now table }
+// The section of a table's records.
+pub fn section_of<R: FileRecord>(file: &[u8]) -> Section
+    ensures { result ≡ section_of file.now R.TABLE }
 {
-    let (position, size) = match table {
-        Table::Categories | Table::Closings => (1, 8),
-        Table::Entries => (3, 32),
-        Table::Elements => (5, 48),
-    };
     Section {
-        count: number(file, position),
-        start: number(file, position + 1),
-        size,
+        count: number(file, R::POSITION),
+        start: number(file, R::POSITION + 1),
+        size: R::SIZE,
     }
 }
 

@@ -10,7 +10,7 @@ mod reading;
 mod records;
 mod tables;
 
-pub use answers::{Load, Numbers, Place, numbers_of};
+pub use answers::{Load, Numbers, Place};
 pub use loading::load;
 pub use numbers::u64_at;
 pub use reading::read_full;

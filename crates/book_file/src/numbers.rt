@@ -1,4 +1,4 @@
-// Numbers in bytes, little-endian.
+// Numbers in bytes, little-endian. A line for each type: `from_le_bytes` is of each, and no trait of the library has it.
 ghost use Rattle.std.specs.Prelude.{◌≡◌, ◌+◌, ◌≤◌, ◌<◌, length, take, drop, replicate};
 ghost use Rattle.book_file.specs.Bytes.{u32_at, u64_at};
 

@@ -8,6 +8,7 @@ use native.Mathlib.Omega.{arith}
 use lib.ListN.{length}
 use lib.Seq.{get_or-set_other}
 use borrow.Author.Tests.{lt-ltb, le-ltb, lt-leb, le-leb}
+use Rattle.std.proofs.lemmas.Bool.{cases_lt}
 use Rattle.apportion.specs.Places.{at}
 use Rattle.book_words.specs.Book.{book_length, element_list, elements, element_at, element_start, most_elements, most_categories, category_start, closed_word, close_category, put_shares}
 use Rattle.book_words.specs.Inner.Steps.{numbered}
@@ -18,7 +19,6 @@ use Rattle.book_words.specs.declared.totals.Side.TheVariants.{Operation as opera
 use Rattle.book_words.specs.declared.records.Element.{Element}
 use Rattle.book_shares.specs.Inner.Steps.{hand_out_to, put_two}
 use Rattle.book_shares.specs.Previews.{held_by, pairs_of}
-use Rattle.apportion.proofs.Sums.{below_or_not}
 use Rattle.book_words.proofs.RecordsAfterWrite.{element-same}
 use Rattle.book_shares.proofs.CloseWrites.{chosen-word, chosen-element, chosen-here}
 use Rattle.book_shares.proofs.Pairs.{pair_put, pairs-cong}
@@ -100,7 +100,7 @@ held-read ws p {pair = pair} =
     let back : p + 1 - 1 ≡ p = omega arith in
     rw (lt-ltb p (elements ws) here, le-leb 1 (p + 1) (omega arith), le-leb (p + 1) (elements ws) (omega arith), back) apart)
     (λ (past : elements ws ≤ p). rw (lt-leb (p + 1) (elements ws) (omega arith), and-false, le-ltb p (elements ws) past) apart)
-    (below_or_not p (elements ws))
+    (cases_lt p (elements ws))
   where
     apart : {a b : ℕ} → pair ≡ (a, b) → (pair.0 ≡ a) × (pair.1 ≡ b)
     apart e = (ap (λ (q : ℕ × ℕ). q.0) e, ap (λ (q : ℕ × ℕ). q.1) e)

@@ -17,13 +17,11 @@ use Rattle.book_words.specs.declared.totals.Side.{Side}
 use Rattle.book_words.specs.declared.totals.Side.TheVariants.{Operation as operation, Provision as provision}
 use Rattle.book_shares.specs.declared.pools.Pools.{Pools}
 use Rattle.book_shares.specs.declared.sharing.Parts.{Parts}
-use Rattle.book_shares.specs.declared.weights.Recipients.{Recipients}
-use Rattle.book_shares.specs.declared.weights.Recipients.TheVariants.{Group, Freight, Passengers}
 use Rattle.book_shares.specs.Closing.{pool_without_elements, close_grounds, close_refusal, nothing_to_divide_by}
 use Rattle.book_shares.specs.Inner.Steps.{DivisibleOver, pools_by}
 use Rattle.book_shares.specs.Inner.Members.{members, activity_at, mass_at}
 use Rattle.book_shares.specs.Shares.{weights, freight_part, divided_all, passenger_part}
-use Rattle.book_shares.specs.Sums.{activity_among, passengers_by_mass, pool}
+use Rattle.book_shares.specs.Sums.{Recipients, Group, Freight, Passengers, activity_among, passengers_by_mass, pool}
 use Rattle.apportion.proofs.Grounds.{none-holds, or-none}
 use Rattle.apportion.proofs.Laws.{share-of-zero}
 use Rattle.book_words.proofs.Ranges.{above_zero}

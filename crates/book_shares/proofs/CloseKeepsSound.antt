@@ -8,6 +8,7 @@ use native.Mathlib.Nat.{eq-zero-or-pos}
 use native.Mathlib.Omega.{arith}
 use lib.Dec.{leb, eqb}
 use borrow.Author.Tests.{ne_eqb}
+use Rattle.std.proofs.lemmas.Bool.{and_from, and_parts, cases_eq}
 use Rattle.apportion.specs.Places.{sum_below}
 use Rattle.book_words.specs.Book.{categories, category_at, category_of, entries, entry_at, elements, element_at}
 use Rattle.book_words.specs.Measures.{standard_activity, between, is_kind, is_chain, is_code, unsuited}
@@ -19,8 +20,7 @@ use Rattle.book_words.specs.declared.records.Category.{Category}
 use Rattle.book_words.specs.declared.records.Element.{Element}
 use Rattle.book_words.specs.declared.records.Entry.{Entry}
 use Rattle.apportion.proofs.Sums.{sum-cong}
-use Rattle.book_words.proofs.Booleans.{and_both, both}
-use Rattle.book_words.proofs.SameRecords.{same_or_not, entries-kept}
+use Rattle.book_words.proofs.SameRecords.{entries-kept}
 use Rattle.book_words.proofs.Ranges.{between-low, between-high}
 use Rattle.book_words.proofs.RecordRules.{entry-inside, entry-numbered, element-quoted, element-inside, element-numbered}
 use Rattle.book_words.proofs.Passengers.{mixed-kept}
@@ -30,7 +30,7 @@ use Rattle.book_shares.proofs.CloseWrites.{CategoryClosed, with_shares, closed_c
 -- a category that kept the rules keeps them when it is closed
 closed-fine : (k : Category) → category_fine k ≡ true → category_fine (closed_category k) ≡ true
 unfolding category_fine
-closed-fine k e = and_both (is_kind k.kind) true (both (is_kind k.kind) (leb k.closed 1) e).0 refl
+closed-fine k e = and_from (is_kind k.kind) true (and_parts (is_kind k.kind) (leb k.closed 1) e).0 refl
 
 -- an entry suits the same kind, and an element of a closed category has any shares
 entry-suits-kind : (k k' : Category) (r : Entry) → k'.kind ≡ k.kind → entry_suits k' r ≡ entry_suits k r
@@ -41,7 +41,7 @@ shared-suits : (k : Category) (r : Element) (a b : ℕ) → element_suits k r �
 unfolding element_suits measured
 shared-suits k r a b e =
     let rules = is_chain r.chain && is_code r.code && not (unsuited k.kind r.code) && measured k.kind r in
-    and_both rules true (both rules (shares_wait k r) e).0 refl
+    and_from rules true (and_parts rules (shares_wait k r) e).0 refl
 
 -- what an element of this category adds to the category of this number
 abbrev in_category : ℕ → ℕ → ℕ → ℕ
@@ -59,7 +59,7 @@ module _ (ws ws' : List ℕ) (category : ℕ) (share : Side → ℕ → ℕ) whe
         ⊎_elim
         (λ (e : (element_at ws p).category ≡ category). ap f (a.element_shared p h e) ∙ blind (element_at ws p) (share operation p) (share provision p))
         (λ (ne : (element_at ws p).category ≡ category → ⊥). ap f (a.element_kept p ne))
-        (same_or_not (element_at ws p).category category)
+        (cases_eq (element_at ws p).category category)
 
     activities-kept : activities ws' ≡ activities ws
     unfolding activities standard_activity
@@ -84,7 +84,7 @@ module _ (ws ws' : List ℕ) (category : ℕ) (share : Side → ℕ → ℕ) whe
         ∙ in-other k (element_at ws p).category (share_of s (with_shares (element_at ws p) (share operation p) (share provision p))) away
         ∙ sym (in-other k (element_at ws p).category (share_of s (element_at ws p)) away))
         (λ (ne : (element_at ws p).category ≡ category → ⊥). ap (λ (r : Element). in_category k r.category (share_of s r)) (a.element_kept p ne))
-        (same_or_not (element_at ws p).category category)))
+        (cases_eq (element_at ws p).category category)))
 
     pub shares-written : (s : Side) → shares_of ws' category s ≡ sum_below (elements ws) (λ p. cond (eqb (element_at ws p).category category) (share s p) 0)
     unfolding shares_of
@@ -102,7 +102,7 @@ module _ (ws ws' : List ℕ) (category : ℕ) (share : Side → ℕ → ℕ) whe
         ap (λ (r : Element). in_category category r.category (share_of s r)) (a.element_kept p ne)
         ∙ in-other category (element_at ws p).category (share_of s (element_at ws p)) ne
         ∙ sym (in-other category (element_at ws p).category (share s p) ne))
-        (same_or_not (element_at ws p).category category)))
+        (cases_eq (element_at ws p).category category)))
       where
         of-side : (s : Side) (r : Element) (p : ℕ) → share_of s (with_shares r (share operation p) (share provision p)) ≡ share s p
         of-side operation r p = refl
@@ -116,7 +116,7 @@ module _ (ws ws' : List ℕ) (category : ℕ) (share : Side → ℕ → ℕ) whe
         (λ (e : p ≡ category - 1).
         ap (λ (q : ℕ). (category_at ws' q).kind) e ∙ ap (λ (x : Category). x.kind) a.category_closed ∙ ap (λ (q : ℕ). (category_at ws q).kind) (sym e))
         (λ (ne : p ≡ category - 1 → ⊥). ap (λ (x : Category). x.kind) (a.category_kept p (omega (arith, w.counts.categories_most)) ne))
-        (same_or_not p (category - 1))
+        (cases_eq p (category - 1))
 
     category-keeps : (p : ℕ) → p < categories ws → category_fine (category_at ws' p) ≡ true
     category-keeps p h =
@@ -126,7 +126,7 @@ module _ (ws ws' : List ℕ) (category : ℕ) (share : Side → ℕ → ℕ) whe
         ∙ ap category_fine a.category_closed
         ∙ closed-fine (category_at ws (category - 1)) (w.each-category (category - 1) (omega arith)))
         (λ (ne : p ≡ category - 1 → ⊥). ap category_fine (a.category_kept p (omega (arith, w.counts.categories_most)) ne) ∙ w.each-category p h)
-        (same_or_not p (category - 1))
+        (cases_eq p (category - 1))
 
     entry-keeps : (r : Entry) → entry_fine ws r ≡ true → entry_fine ws' r ≡ true
     entry-keeps r e =
@@ -164,7 +164,7 @@ module _ (ws ws' : List ℕ) (category : ℕ) (share : Side → ℕ → ℕ) whe
         ∙ element-numbered ws r enrolled inside
         ∙ fine)
         (eq-zero-or-pos r.category))
-        (same_or_not r.category category)
+        (cases_eq r.category category)
 
     pub close-keeps : 1 ≤ category → category ≤ categories ws
         → ((s : Side) → sum_below (elements ws) (λ p. cond (eqb (element_at ws p).category category) (share s p) 0) ≡ unstruck_of ws category s)
@@ -195,5 +195,5 @@ module _ (ws ws' : List ℕ) (category : ℕ) (share : Side → ℕ → ℕ) whe
               shares-elsewhere a (p + 1) s ne
               ∙ w.balanced p i (λ z. closed (ap (λ (x : Category). x.closed) same ∙ z)) s
               ∙ sym (entry-sums.1 (p + 1) s))
-              (same_or_not (p + 1) category);
+              (cases_eq (p + 1) category);
         }

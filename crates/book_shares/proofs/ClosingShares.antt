@@ -9,6 +9,7 @@ use native.Mathlib.Omega.{arith}
 use lib.Dec.{eqb}
 use lib.ListN.{length}
 use borrow.Author.Tests.{eq-eqb, ne_eqb, le-leb, lt-leb}
+use Rattle.std.proofs.lemmas.Bool.{and_from, and_right, cases_lt}
 use Rattle.apportion.specs.Dividing.{divided, Divisible}
 use Rattle.apportion.specs.Fractions.{over, plus}
 use Rattle.apportion.specs.Nearness.{Within}
@@ -16,16 +17,13 @@ use Rattle.apportion.specs.Places.{sum_below, at, sum_of, kept}
 use Rattle.book_words.specs.Book.{elements, element_at}
 use Rattle.book_words.specs.Measures.{between, is_code}
 use Rattle.book_words.specs.declared.totals.Side.{Side}
-use Rattle.book_shares.specs.declared.weights.Recipients.{Recipients}
-use Rattle.book_shares.specs.declared.weights.Recipients.TheVariants.{Group, Freight, Passengers}
 use Rattle.book_shares.specs.declared.sharing.Parts.{Parts}
 use Rattle.book_shares.specs.Shares.{divided_all, freight_part, passenger_part, weights, part_at, closing_share, exact_share, exact_of}
-use Rattle.book_shares.specs.Sums.{pool, among, activity_among, passengers_by_mass, if_recipient, receives}
+use Rattle.book_shares.specs.Sums.{Recipients, Group, Freight, Passengers, pool, among, activity_among, passengers_by_mass, if_recipient, receives}
 use Rattle.apportion.proofs.Laws.{shares-length, shares_sum, share-of-zero, share-near}
 use Rattle.apportion.proofs.Lists.{list_length, list_at, list-past, list-sum}
 use Rattle.apportion.proofs.PlacesLeftOut.{divided-kept}
-use Rattle.apportion.proofs.Sums.{below_or_not, sum-add, sum-some}
-use Rattle.book_words.proofs.Booleans.{and_both, and-false}
+use Rattle.apportion.proofs.Sums.{sum-add, sum-some}
 use Rattle.book_words.proofs.Ranges.{between-outside}
 use Rattle.book_shares.proofs.Nearness.{near-chain, near-cancel, near-plus, near-weaken}
 
@@ -65,14 +63,14 @@ module _ (ws : List ℕ) (category : ℕ) (recipients : Recipients) where
 
   pub goes-here : (p : ℕ) → (element_at ws p).category ≡ category → receives recipients (element_at ws p).code ≡ true → receives_part p ≡ true
   goes-here p same e =
-      and_both (eqb (element_at ws p).category category) (receives recipients (element_at ws p).code)
+      and_from (eqb (element_at ws p).category category) (receives recipients (element_at ws p).code)
       (eq-eqb (element_at ws p).category category same) e
 
   pub goes-elsewhere : (p : ℕ) → ((element_at ws p).category ≡ category → ⊥) → receives_part p ≡ false
   goes-elsewhere p other = rw (ne_eqb (element_at ws p).category category other)
 
   pub goes-outside : (p : ℕ) → receives recipients (element_at ws p).code ≡ false → receives_part p ≡ false
-  goes-outside p other = and-false (eqb (element_at ws p).category category) (receives recipients (element_at ws p).code) other
+  goes-outside p other = and_right (eqb (element_at ws p).category category) (receives recipients (element_at ws p).code) other
 
   -- the weight of the element at this place
   abbrev weight : ℕ → ℕ
@@ -106,7 +104,7 @@ module _ (ws : List ℕ) (category : ℕ) (recipients : Recipients) where
       ⊎_elim
       (λ (here : p < elements ws). weight-at p here ∙ weight_is p ∙ (rw e))
       (λ (past : elements ws ≤ p). list-past (elements ws) weight p past)
-      (below_or_not p (elements ws))
+      (cases_lt p (elements ws))
 
   -- and it gets nothing
   pub part_none : (amount : ℕ) → Divisible amount (weights ws category recipients) → (p : ℕ) → receives_part p ≡ false
@@ -345,4 +343,4 @@ share-within ws category side h p here same known some =
     (eq-zero-or-pos (element_at ws p).code))
     (λ (g : 3 ≤ (element_at ws p).code).
     passengers-near ws category side h p here same some g (rw (lt-leb (element_at ws p).code 2 g) at known))
-    (below_or_not (element_at ws p).code 3)
+    (cases_lt (element_at ws p).code 3)

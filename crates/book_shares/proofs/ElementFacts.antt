@@ -8,13 +8,13 @@ use native.Mathlib.Nat.{eq-zero-or-pos, mul-le-mul, mul-le-mul_left}
 use native.Mathlib.Omega.{arith}
 use lib.Dec.{eqb, leb}
 use borrow.Author.Tests.{eqb-true, eq-eqb, ne_eqb, leb-true}
+use Rattle.std.proofs.lemmas.Bool.{and_parts, cond-false}
 use Rattle.book_words.specs.Book.{category_of}
 use Rattle.book_words.specs.Measures.{is_code, unsuited, is_amount, is_distance_in, activity_of, is_freight, between, is_passenger, is_hub, standard_activity, is_group, unsuited_group, is_kg_per_head, mass_per_head, by_stated_mass, by_standard_mass}
 use Rattle.book_words.specs.Soundness.{most_amount, measured, element_suits, quoted_suits, element_fine, entry_fine, entry_suits}
 use Rattle.book_words.specs.declared.records.Category.{Category}
 use Rattle.book_words.specs.declared.records.Element.{Element}
 use Rattle.book_words.specs.declared.records.Entry.{Entry}
-use Rattle.book_words.proofs.Booleans.{both, cond-false}
 use Rattle.book_words.proofs.Ranges.{between-low, between-high}
 use Rattle.book_words.proofs.RecordRules.{element-quoted, element-numbered, element-inside, entry-numbered, entry-inside, suits-parts, quoted-parts}
 
@@ -53,15 +53,15 @@ module _ (r : Element) (m : Measured r) where
 
   parts : (in-range && known-mass ≡ true) × (eqb r.activity (activity_of m.kind r.code r.amount r.distance) ≡ true)
   unfolding measured
-  parts = both (in-range && known-mass) (eqb r.activity (activity_of m.kind r.code r.amount r.distance)) m.fine
+  parts = and_parts (in-range && known-mass) (eqb r.activity (activity_of m.kind r.code r.amount r.distance)) m.fine
 
   ranges : (is_amount r.code r.amount ≡ true) × (is_distance_in m.kind r.distance ≡ true)
-  ranges = both (is_amount r.code r.amount) (is_distance_in m.kind r.distance) (both in-range known-mass parts.0).0
+  ranges = and_parts (is_amount r.code r.amount) (is_distance_in m.kind r.distance) (and_parts in-range known-mass parts.0).0
 
   -- a passenger's mass is from 1 to 300 kg
   head-mass : is_freight r.code ≡ false → (1 ≤ mass_per_head r.kg_per_head) × (mass_per_head r.kg_per_head ≤ 300)
   head-mass e =
-      let most = leb-true r.kg_per_head 300 (rw e at (both in-range known-mass parts.0).1) in
+      let most = leb-true r.kg_per_head 300 (rw e at (and_parts in-range known-mass parts.0).1) in
       ⊎_elim
       (λ (none : r.kg_per_head ≡ 0). rw (eq-eqb r.kg_per_head 0 none) (omega arith, omega arith))
       (λ (some : 0 < r.kg_per_head). rw (ne_eqb r.kg_per_head 0 (λ z. omega arith)) (some, most))
@@ -156,7 +156,7 @@ entry-grouped ws r e =
     let suited = not (unsuited_group k.kind r.group) in
     let one = leb r.operation most_amount in
     let two = leb r.provision most_amount in
-    let a = both (known && suited && one && two) (leb r.struck 1) suits in
-    let b = both (known && suited && one) two a.0 in
-    let d = both (known && suited) one b.0 in
-    leb-true r.group 2 (both known suited d.0).0
+    let a = and_parts (known && suited && one && two) (leb r.struck 1) suits in
+    let b = and_parts (known && suited && one) two a.0 in
+    let d = and_parts (known && suited) one b.0 in
+    leb-true r.group 2 (and_parts known suited d.0).0

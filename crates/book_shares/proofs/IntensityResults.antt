@@ -1,13 +1,12 @@
 -- What holds where an intensity is wanted, and its results by their quotients. Assumes nothing.
-use mathlib.Core.Bool.{Bool, ◌||◌, not, ◌&&◌, false, true, cond, or-false}
+use mathlib.Core.Bool.{Bool, ◌||◌, false, true, cond}
 use mathlib.Core.List.{List}
-use mathlib.Core.Logic.{⊎_elim}
-use mathlib.Core.Path.{◌≡◌, ◌∙◌, refl, ap, sym}
+use mathlib.Core.Path.{◌≡◌, ◌∙◌, refl, ap}
 use Prim.Native.Nat.{ℕ, ◌<◌, ◌*◌, ◌^◌, ◌+◌, zero, suc}
 use native.Mathlib.Nat.{add-zero}
 use native.Mathlib.Omega.{arith}
 use lib.Dec.{eqb, ltb}
-use borrow.Author.Tests.{eq-eqb, ne_eqb, not-false, ltb-false, leb-true}
+use borrow.Author.Tests.{not-false, ltb-false}
 use Rattle.apportion.specs.Fractions.{nearest}
 use Rattle.apportion.specs.Grounds.{accepted, first_of}
 use Rattle.apportion.specs.Inner.Grounds.{grounds_before}
@@ -19,15 +18,17 @@ use Rattle.book_words.specs.declared.totals.Side.TheVariants.{Operation as opera
 use Rattle.book_words.specs.Inner.Steps.{capped}
 use Rattle.book_shares.specs.declared.pools.Pools.{Pools}
 use Rattle.book_shares.specs.declared.sharing.Parts.{Parts}
-use Rattle.book_shares.specs.declared.weights.Recipients.{Recipients}
-use Rattle.book_shares.specs.declared.weights.Recipients.TheVariants.{Group, Passengers, Freight}
-use Rattle.book_shares.specs.Inner.Steps.{scale_tens, Allowed, pools_by, group_pool}
+use Rattle.book_shares.specs.Inner.Steps.{scale_tens, Allowed, code_of, pools_by, group_pool}
 use Rattle.book_shares.specs.Intensities.{lacks_activity, intensity_of, scale, most_result, intensity_refusal, is_intensity_code, passes_intensity, IntensityReply, intensity_reply, intensity_grounds}
-use Rattle.book_shares.specs.Inner.Members.{members, activity_at, mass_at}
-use Rattle.book_shares.specs.Sums.{activity_among, pool}
+use Rattle.book_shares.specs.declared.weights.Group.{Group as NamedGroup}
+use Rattle.book_shares.specs.declared.weights.Group.TheVariants.{Chilled as chilled, Frozen as frozen}
+use Rattle.book_shares.specs.declared.weights.Recipients.{Recipients as Named}
+use Rattle.book_shares.specs.declared.weights.Recipients.TheVariants.{Freight as freight, Passengers as passengers, Group as of_group}
+use Rattle.book_shares.specs.Inner.Members.{members, activity_at, mass_at, by_number, group_number}
+use Rattle.book_shares.specs.Shares.{freight_part}
+use Rattle.book_shares.specs.Sums.{Recipients, Group, Passengers, Freight, activity_among}
 use Rattle.apportion.proofs.Grounds.{or-none, none-holds, decided-from}
 use Rattle.book_words.proofs.CappedSums.{capped-both, capped-over}
-use Rattle.book_words.proofs.SameRecords.{same_or_not}
 use Rattle.book_words.proofs.Ranges.{above_zero}
 use Rattle.book_shares.proofs.SumBounds.{activity-most}
 use Rattle.book_shares.proofs.ClosingShares.{ToDivideBy, parts_of}
@@ -41,45 +42,21 @@ tens-scale kind = go (is_hub kind)
     go true = refl
     go false = refl
 
+-- where ground 9 does not hold, there is an activity to divide by
+module _ (activity : Recipients → ℕ) where
+  group-parts : (g : NamedGroup) → lacks_activity activity (group_number g) ≡ false → (eqb (activity Freight) 0 ≡ false) × (eqb (activity (Group (group_number g))) 0 ≡ false)
+  group-parts chilled h = or-none (eqb (activity Freight) 0) (eqb (activity (Group 1)) 0) h
+  group-parts frozen h = or-none (eqb (activity Freight) 0) (eqb (activity (Group 2)) 0) h
+
+  some-recipients : (r : Named) → lacks_activity activity (code_of r) ≡ false → 0 < activity (by_number r)
+  some-recipients freight h = above_zero (activity Freight) (or-none (eqb (activity Freight) 0) false h).0
+  some-recipients passengers h = above_zero (activity Passengers) h
+  some-recipients (of_group g) h = above_zero (activity (Group (group_number g))) (group-parts g h).1
+
+  some-freight : (g : NamedGroup) → lacks_activity activity (group_number g) ≡ false → 0 < activity Freight
+  some-freight g h = above_zero (activity Freight) (group-parts g h).0
+
 module _ (ws : List ℕ) (category code : ℕ) where
-  -- where ground 9 does not hold, there is an activity to divide by
-  some-passengers : lacks_activity (activity_among ws category) code ≡ false → code ≡ 100 → 0 < activity_among ws category Passengers
-  some-passengers h is = above_zero (activity_among ws category Passengers) (rw (eq-eqb code 100 is) at h)
-
-  freight-parts : lacks_activity (activity_among ws category) code ≡ false → (code ≡ 100 → ⊥)
-      → (eqb (activity_among ws category Freight) 0 ≡ false) × (not (eqb code 0) && eqb (activity_among ws category (Group code)) 0 ≡ false)
-  freight-parts h other =
-      or-none (eqb (activity_among ws category Freight) 0) (not (eqb code 0) && eqb (activity_among ws category (Group code)) 0)
-      (rw (ne_eqb code 100 other) at h)
-
-  some-freight : lacks_activity (activity_among ws category) code ≡ false → (code ≡ 100 → ⊥) → 0 < activity_among ws category Freight
-  some-freight h other = above_zero (activity_among ws category Freight) (freight-parts h other).0
-
-  some-group : lacks_activity (activity_among ws category) code ≡ false → (code ≡ 100 → ⊥) → (code ≡ 0 → ⊥) → 0 < activity_among ws category (Group code)
-  some-group h other grouped = above_zero (activity_among ws category (Group code)) (rw (ne_eqb code 0 grouped) at (freight-parts h other).1)
-
-  activity-to-divide-by : sound ws ≡ true → lacks_activity (activity_among ws category) code ≡ false → ToDivideBy ws category
-  activity-to-divide-by fine h =
-      ⊎_elim
-      (λ (is : code ≡ 100). omega (arith, some-passengers h is, activity-most ws fine category))
-      (λ (other : code ≡ 100 → ⊥). omega (arith, some-freight h other))
-      (same_or_not code 100)
-
-  -- the pool of a code that is neither ambient nor passengers
-  group-found : (side : Side) (q : Pools) → q ≡ pools_by ws category side → is_intensity_code code ≡ true → (code ≡ 100 → ⊥) → (code ≡ 0 → ⊥)
-      → group_pool q code ≡ pool ws category code side
-  group-found side q is known other grouped =
-      rw is
-      (⊎_elim
-      (λ (one : code ≡ 1). rw (eq-eqb code 1 one, one))
-      (λ (two : code ≡ 1 → ⊥). rw (ne_eqb code 1 two) (ap (λ (g : ℕ). pool ws category g side) (sym (last two))))
-      (same_or_not code 1))
-    where
-      last : (code ≡ 1 → ⊥) → code ≡ 2
-      last two =
-          let small = leb-true code 2 (rw (ne_eqb code 100 other, or-false) at known) in
-          omega arith
-
   -- none of the grounds before 9 holds
   pub record Early : Type 0 where
     pub fine : sound ws ≡ true
@@ -102,9 +79,6 @@ module _ (ws : List ℕ) (category code : ℕ) where
   pub nine : (places : List ℕ) → places ≡ members ws category → lacks_activity (activity_at ws places) code ≡ lacks_activity (activity_among ws category) code
   nine places are =
       rw (are, activity-members ws category Passengers, activity-members ws category Freight, activity-members ws category (Group code))
-
-  pub allowed : Early → lacks_activity (activity_among ws category) code ≡ false → Allowed ws category code
-  allowed k some = record { fine = k.fine; numbered = k.numbered; known = k.known; some_activity = some }
 
   -- ground 10, from the capped results
   pub ten : (a b : ℕ) → a ≡ capped (intensity_of ws category code operation) → b ≡ capped (intensity_of ws category code provision)
@@ -145,45 +119,52 @@ module _ (ws : List ℕ) (category code : ℕ) where
 
 -- Where an intensity is allowed, over the category's elements by their places: what is divided by is above 0, and the results
 -- are those that the code makes.
-module _ {ws : List ℕ} {category code : ℕ} {places : List ℕ} (ok : Allowed ws category code) (are : places ≡ members ws category) where
+module _ (ws : List ℕ) (category : ℕ) (places : List ℕ) (are : places ≡ members ws category) where
   found : (recipients : Recipients) → activity_at ws places recipients ≡ activity_among ws category recipients
   found recipients = rw are (activity-members ws category recipients)
 
-  pub all_there : 0 < activity_at ws places Freight + mass_at ws places
-  all_there = served-at ws category places are (activity-to-divide-by ws category code ok.fine ok.some_activity)
+  pub recipients-there : (r : Named) → Allowed ws category r → 0 < activity_at ws places (by_number r)
+  recipients-there r ok = rw (found (by_number r)) (some-recipients (activity_among ws category) r ok.some_activity)
 
-  pub passengers-there : code ≡ 100 → 0 < activity_at ws places Passengers
-  passengers-there is = rw (found Passengers) (some-passengers ws category code ok.some_activity is)
+  pub freight-there : (g : NamedGroup) → Allowed ws category (of_group g) → 0 < activity_at ws places Freight
+  freight-there g ok = rw (found Freight) (some-freight (activity_among ws category) g ok.some_activity)
 
-  pub freight-there : (code ≡ 100 → ⊥) → 0 < activity_at ws places Freight
-  freight-there other = rw (found Freight) (some-freight ws category code ok.some_activity other)
-
-  pub group-there : (code ≡ 100 → ⊥) → (code ≡ 0 → ⊥) → 0 < activity_at ws places (Group code)
-  group-there other grouped = rw (found (Group code)) (some-group ws category code ok.some_activity other grouped)
+  pub all_there : sound ws ≡ true → (r : Named) → Allowed ws category r → 0 < activity_at ws places Freight + mass_at ws places
+  all_there fine r ok = served-at ws category places are (to-divide-by r ok.some_activity)
+    where
+      to-divide-by : (r : Named) → lacks_activity (activity_among ws category) (code_of r) ≡ false → ToDivideBy ws category
+      to-divide-by freight h = omega (arith, some-recipients (activity_among ws category) freight h)
+      to-divide-by passengers h = omega (arith, some-recipients (activity_among ws category) passengers h, activity-most ws fine category)
+      to-divide-by (of_group g) h = omega (arith, some-freight (activity_among ws category) g h)
 
   module _ (side : Side) {p : Parts} (are-parts : p ≡ parts_of ws category side) where
-    pub passengers-result : (r : ℕ) → code ≡ 100 → r ≡ capped (nearest (p.passengers * 100) (activity_at ws places Passengers))
-        → r ≡ capped (intensity_of ws category code side)
+    pub passengers-result : {r : ℕ} → r ≡ capped (nearest (p.passengers * 100) (activity_at ws places Passengers))
+        → r ≡ capped (intensity_of ws category 100 side)
     unfolding intensity_of
-    passengers-result r is e = e ∙ rw (are-parts, found Passengers, eq-eqb code 100 is)
+    passengers-result e = e ∙ rw (are-parts, found Passengers)
 
-    module _ {tens first : ℕ} (other : code ≡ 100 → ⊥) (is-tens : tens ≡ scale_tens (category_of ws category).kind)
+    module _ {tens first : ℕ} (is-tens : tens ≡ scale_tens (category_of ws category).kind)
         (is-first : first ≡ capped (nearest (p.freight * 10 ^ tens) (activity_at ws places Freight))) where
       unit : 10 ^ tens ≡ scale (category_of ws category).kind
       unit = ap (λ (n : ℕ). 10 ^ n) is-tens ∙ tens-scale (category_of ws category).kind
 
-      pub freight-result : code ≡ 0 → first ≡ capped (intensity_of ws category code side)
+      pub freight-result : first ≡ capped (intensity_of ws category 0 side)
       unfolding intensity_of
-      freight-result none =
-          is-first ∙ rw (unit, are-parts, found Freight, ne_eqb code 100 other, eq-eqb code 0 none, add-zero)
+      freight-result = is-first ∙ rw (unit, are-parts, found Freight, add-zero)
 
-      pub group-result : (q : Pools) (more second r : ℕ) → (code ≡ 0 → ⊥) → q ≡ pools_by ws category side → more ≡ group_pool q code
-          → second ≡ capped (nearest (more * 10 ^ tens) (activity_at ws places (Group code))) → r ≡ capped (first + second)
-          → r ≡ capped (intensity_of ws category code side)
+      pub group-result : (g : NamedGroup) (q : Pools) {more second r : ℕ} → q ≡ pools_by ws category side → more ≡ group_pool q g
+          → second ≡ capped (nearest (more * 10 ^ tens) (activity_at ws places (Group (group_number g)))) → r ≡ capped (first + second)
+          → r ≡ capped (intensity_of ws category (group_number g) side)
       unfolding intensity_of
-      group-result q more second r grouped are-pools is-more is-second is =
-          let pooled = is-more ∙ group-found ws category code side q are-pools ok.known other grouped in
+      group-result g q {more} {second} are-pools is-more is-second is =
           let sum : capped (first + second)
-          ≡ capped (nearest (p.freight * 10 ^ tens) (activity_at ws places Freight) + nearest (more * 10 ^ tens) (activity_at ws places (Group code))) =
+          ≡ capped (nearest (p.freight * 10 ^ tens) (activity_at ws places Freight) + nearest (more * 10 ^ tens) (activity_at ws places (Group (group_number g)))) =
           rw (is-first, is-second) (capped-both _ _) in
-          is ∙ sum ∙ rw (unit, are-parts, pooled, found Freight, found (Group code), ne_eqb code 100 other, ne_eqb code 0 grouped)
+          is ∙ sum ∙ rw (is-more, are-pools, unit, are-parts, found Freight, found (Group (group_number g))) (by g)
+        where
+          by : (g : NamedGroup)
+              → capped (nearest (freight_part ws category side * scale (category_of ws category).kind) (activity_among ws category Freight)
+              + nearest (group_pool (pools_by ws category side) g * scale (category_of ws category).kind) (activity_among ws category (Group (group_number g))))
+              ≡ capped (intensity_of ws category (group_number g) side)
+          by chilled = refl
+          by frozen = refl

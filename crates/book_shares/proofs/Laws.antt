@@ -8,6 +8,7 @@ use native.Mathlib.Omega.{arith}
 use lib.Dec.{eqb}
 use lib.ListN.{length, drop, length-append, length-drop}
 use borrow.Author.Tests.{eq-eqb, ne_eqb, le-ltb, lt-ltb}
+use Rattle.std.proofs.lemmas.Bool.{cases_eq, cases_lt}
 use Rattle.apportion.specs.Nearness.{Within}
 use Rattle.apportion.specs.Places.{at, sum_below}
 use Rattle.book_words.specs.Book.{categories, elements, element_at, most_elements}
@@ -20,10 +21,9 @@ use Rattle.book_shares.specs.Closing.{close_grounds, close_refusal, close_book}
 use Rattle.book_shares.specs.Previews.{held_by, pair_at, pair_words, pairs_of, pairs_written, Previewed, preview_pairs, preview_refusal, short_of_pairs}
 use Rattle.book_shares.specs.Shares.{closing_share, exact_of}
 use Rattle.apportion.proofs.Grounds.{accepted-new, checked-in-vain, refused-old, either}
-use Rattle.apportion.proofs.Sums.{below_or_not, sum-cong}
+use Rattle.apportion.proofs.Sums.{sum-cong}
 use Rattle.book_words.proofs.ShareSums.{open-shares}
 use Rattle.book_words.proofs.SoundTests.{sound-counted}
-use Rattle.book_words.proofs.SameRecords.{same_or_not}
 use Rattle.book_words.proofs.WordsAfterWrite.{front-past}
 use Rattle.book_words.proofs.Ranges.{between-low, between-high}
 use Rattle.book_words.proofs.SoundRecords.{facts-sound, sound-facts}
@@ -76,7 +76,7 @@ module _ (ws : List ℕ) (category : ℕ) where
             ⊎_elim
             (λ (is : c ≡ category). rw (eq-eqb c category is))
             (λ (other : c ≡ category → ⊥). rw (ne_eqb c category other) (sym (none other)))
-            (same_or_not c category)
+            (cases_eq c category)
 
     -- The shares of the closed category sum to its unstruck entries.
     pub shares-handed : shares_of (close_book ws category) category side ≡ unstruck_of ws category side
@@ -131,7 +131,7 @@ module _ (ws pairs : List ℕ) (category : ℕ) where
         ⊎_elim
         (λ (short : length pairs < pair_words). absurd (refused (sound ws) (sym (preview-short short) ∙ e)))
         (λ (long : pair_words ≤ length pairs). (sym (preview-as-close long) ∙ e, long))
-        (below_or_not (length pairs) pair_words),
+        (cases_lt (length pairs) pair_words),
     λ both. preview-as-close both.1 ∙ both.0,
   )
     where
@@ -174,7 +174,7 @@ module _ (ws pairs : List ℕ) (category : ℕ) where
         ⊎_elim
         (λ (is : c ≡ category). rw (eq-eqb c category is) (same is))
         (λ (other : c ≡ category → ⊥). rw (ne_eqb c category other))
-        (same_or_not c category)
+        (cases_eq c category)
 
     abbrev among_members : (ℕ → ℕ) → ℕ → ℕ
     among_members f p = cond (eqb (element_at ws p).category category) (f p) 0

@@ -6,8 +6,9 @@ use mathlib.Core.Logic.{⊎_elim, inl, inr}
 use mathlib.Core.Path.{◌≡◌, sym, ap, ◌∙◌}
 use Prim.Native.Nat.{ℕ, zero, suc, ◌+◌, ◌≤◌, ◌<◌, ◌*◌}
 use native.Mathlib.Omega.{arith}
-use lib.ListN.{length, length-append, get_or-append}
-use lib.Seq.{get_or_at}
+use lib.ListN.{length, take, length-append, get_or-append}
+use lib.Seq.{get_or_at, length-take-le}
+use Rattle.std.proofs.lemmas.Bool.{cases_lt}
 use Rattle.apportion.specs.Dividing.{divided, Divisible, most_total}
 use Rattle.apportion.specs.Places.{at, count_below, kept_below, kept, sum_of, sum_below}
 use Rattle.book_words.specs.Book.{elements, element_at, most_elements}
@@ -15,17 +16,13 @@ use Rattle.book_words.specs.Measures.{by_stated_mass}
 use Rattle.book_words.specs.Soundness.{sound}
 use Rattle.book_words.specs.Totals.{most_activity}
 use Rattle.book_words.specs.declared.records.Element.{Element}
-use Rattle.book_shares.specs.declared.weights.Measure.{Measure}
-use Rattle.book_shares.specs.declared.weights.Measure.TheVariants.{Activity, Mass}
-use Rattle.book_shares.specs.declared.weights.Recipients.{Recipients}
-use Rattle.book_shares.specs.declared.weights.Recipients.TheVariants.{Freight, Passengers}
-use Rattle.book_shares.specs.Inner.Members.{is_member, members, at_places, measure_of, weights_at, sum_at, activity_at, mass_at}
+use Rattle.book_shares.specs.Inner.Members.{is_member, members, at_places, activity_in, weights_at, sum_at, activity_at, mass_at}
 use Rattle.book_shares.specs.Shares.{weights, part_at}
-use Rattle.book_shares.specs.Sums.{if_recipient, among, sum_among, activity_among, passengers_by_mass}
+use Rattle.book_shares.specs.Sums.{Recipients, Freight, Passengers, if_recipient, among, sum_among, activity_among, passengers_by_mass}
 use Rattle.apportion.proofs.Laws.{shares-length}
 use Rattle.apportion.proofs.Lists.{list_length, list-sum}
 use Rattle.apportion.proofs.PlacesLeftOut.{kept-length, kept_at, sum_kept, list-kept, divided-kept}
-use Rattle.apportion.proofs.Sums.{below_or_not, count_most}
+use Rattle.apportion.proofs.Sums.{count_most}
 use Rattle.book_words.proofs.SoundTests.{sound-counted}
 use Rattle.book_shares.proofs.SumBounds.{activity-limited, served-limited}
 use Rattle.book_shares.proofs.ClosingShares.{weights-length, weights-sum, weight-at, weight-none}
@@ -45,7 +42,7 @@ kept-inside (suc n) keep i h = go (keep n) h (kept-inside n keep i)
         (λ (past : length (kept_below n keep (λ p. p)) ≤ i).
         let last : length (kept_below n keep (λ p. p)) ≡ i = omega (arith, length-append (kept_below n keep (λ p. p)) (n ∷ [])) in
         omega (arith, get_or_at (kept_below n keep (λ p. p)) n [] 0 i last))
-        (below_or_not i (length (kept_below n keep (λ p. p))))
+        (cases_lt i (length (kept_below n keep (λ p. p))))
     go false l rest = rw append-nil (omega (arith, rest (rw append-nil at l)))
 
 module _ (ws : List ℕ) (category : ℕ) where
@@ -103,7 +100,7 @@ module _ (ws : List ℕ) (category : ℕ) where
     weights-members =
         rw (members-length, weights-length ws category recipients)
         (list-kept (is_member ws category) (elements ws)
-        (λ i. measure_of (Activity recipients) (listed-element i))
+        (λ i. activity_in recipients (listed-element i))
         (at (weights ws category recipients))
         (λ p h e. rw (member-at p h e, weight-at ws category recipients p h, e)))
 
@@ -138,22 +135,21 @@ divisible-members ws category recipients amount =
 
 -- the places of the elements of a category in a sound book
 module _ (ws : List ℕ) (category : ℕ) (places : List ℕ) (fine : sound ws ≡ true) (are : places ≡ members ws category) where
-  pub listed-inside : (i : ℕ) → i < length places → at places i < elements ws
-  listed-inside i h = rw are (members-inside ws category i (rw are at h))
+  pub listed_inside : (i : ℕ) → i < length places → at places i < elements ws
+  listed_inside i h = rw are (members-inside ws category i (rw are at h))
 
-  pub listed-few : length places ≤ most_elements
-  listed-few = rw are (members-few ws category fine)
+  pub listed_few : length places ≤ most_elements
+  listed_few = rw are (members-few ws category fine)
 
-  pub listed-activity : (recipients : Recipients) → activity_at ws places recipients ≤ most_total
-  listed-activity recipients =
+  -- so much of an array is as long as they are many
+  pub listed_cut : (xs : List ℕ) → most_elements ≤ length xs → length places ≡ length (take (length places) xs)
+  listed_cut xs long = sym (length-take-le (length places) xs (omega (arith, listed_few)))
+
+  pub listed_activity : (recipients : Recipients) → activity_at ws places recipients ≤ most_total
+  listed_activity recipients =
       rw (are, activity-members ws category recipients) (activity-limited ws fine category recipients)
 
   -- F and P together
-  pub listed-served : activity_at ws places Freight + mass_at ws places ≤ 3 * most_activity
-  listed-served =
+  pub listed_served : activity_at ws places Freight + mass_at ws places ≤ 3 * most_activity
+  listed_served =
       rw (are, activity-members ws category Freight, mass-members ws category) (served-limited ws fine category)
-
-  -- each sum over them
-  pub listed-limited : (measure : Measure) → sum_at ws places measure ≤ most_total
-  listed-limited (Activity recipients) = listed-activity recipients
-  listed-limited Mass = omega (arith, listed-served)

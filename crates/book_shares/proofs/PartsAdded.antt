@@ -3,11 +3,13 @@ use mathlib.Core.Bool.{◌&&◌, true, false}
 use mathlib.Core.List.{List, ◌∷◌, []}
 use mathlib.Core.Logic.{⊎_elim, inl, inr}
 use mathlib.Core.Path.{◌≡◌, refl, ap, ◌∙◌, sym}
-use Prim.Native.Nat.{ℕ, ◌≤◌, ◌<◌, ◌+◌, zero, suc}
+use Prim.Native.Nat.{ℕ, ◌≤◌, ◌<◌, ◌+◌}
 use native.Mathlib.Omega.{arith}
 use lib.Dec.{ltb, eqb}
-use lib.ListN.{length, get_or-eq_default, take, replicate}
-use lib.Seq.{ext_get_or}
+use lib.ListN.{length, get_or-eq_default, take}
+use lib.Seq.{ext_get_or, length-take-le}
+use Rattle.std.proofs.lemmas.Bool.{and_right, cases_lt}
+use Rattle.std.proofs.lemmas.List.{get_or-take}
 use borrow.Author.Tests.{eq-eqb, le-ltb, ne_eqb}
 use Rattle.apportion.specs.Dividing.{divided, most_pool, most_total, Divisible, shares_after, refusal}
 use Rattle.apportion.specs.Places.{at, sum_of, list_below}
@@ -15,18 +17,15 @@ use Rattle.book_words.specs.Soundness.{sound}
 use Rattle.book_words.specs.declared.totals.Side.{Side}
 use Rattle.book_shares.specs.declared.pools.Pools.{Pools}
 use Rattle.book_shares.specs.declared.sharing.Parts.{Parts}
-use Rattle.book_shares.specs.declared.weights.Recipients.{Recipients}
-use Rattle.book_shares.specs.declared.weights.Recipients.TheVariants.{Group, Freight, Passengers}
 use Rattle.book_shares.specs.Inner.Steps.{DivisibleOver, parts_by, pools_by, with_parts_of}
-use Rattle.book_shares.specs.Inner.Members.{members, at_places, weights_at, activity_at, mass_at}
+use Rattle.book_shares.specs.Inner.Members.{members, weights_at, activity_at, mass_at}
 use Rattle.book_shares.specs.Shares.{weights, part_at, divided_all, freight_part, passenger_part, closing_share}
-use Rattle.book_shares.specs.Sums.{pool}
+use Rattle.book_shares.specs.Sums.{Recipients, Group, Freight, Passengers, pool}
 use Rattle.apportion.proofs.Grounds.{accepted-new}
 use Rattle.apportion.proofs.Laws.{shares-length, shares_sum, share-of-zero}
-use Rattle.apportion.proofs.Lists.{list_at, list-past, list-cong, list_length}
-use Rattle.apportion.proofs.Sums.{sum-some, below_or_not}
-use Rattle.book_words.proofs.Booleans.{and-false}
-use Rattle.book_shares.proofs.MemberSums.{activity-members, mass-members, parts-members, weights-at-length, weights-at-sum, listed-few, listed-activity}
+use Rattle.apportion.proofs.Lists.{list_at, list-past, list_length}
+use Rattle.apportion.proofs.Sums.{sum-some}
+use Rattle.book_shares.proofs.MemberSums.{activity-members, mass-members, parts-members, weights-at-length, weights-at-sum, listed_few, listed_activity}
 use Rattle.book_shares.proofs.ClosingShares.{parts_of, Divisions, sum-two}
 
 -- a number of a list is at most its sum
@@ -36,7 +35,7 @@ at-most-sum xs k =
     ⊎_elim
     (λ (here : k < length xs). sum-some (length xs) (at xs) k here)
     (λ (past : length xs ≤ k). omega (arith, get_or-eq_default xs 0 past))
-    (below_or_not k (length xs))
+    (cases_lt k (length xs))
 
 -- an accepted division writes its shares
 pub division-done : (pool : ℕ) (weights old : List ℕ) → refusal pool (length weights) (length old) (sum_of weights) ≡ 0
@@ -44,6 +43,21 @@ pub division-done : (pool : ℕ) (weights old : List ℕ) → refusal pool (leng
 unfolding shares_after
 division-done pool weights old e =
     accepted-new (refusal pool (length weights) (length old) (sum_of weights)) (divided pool weights) old e
+
+module _ (ws places : List ℕ) (recipients : Recipients) where
+  -- the weights at the front of an array, and no part past them
+  pub front-weights : (all : List ℕ) → length places ≤ length all → ((k : ℕ) → at all k ≡ at (weights_at ws places recipients) k)
+      → take (length places) all ≡ weights_at ws places recipients
+  front-weights all few same =
+      let long = length-take-le (length places) all few in
+      ext_get_or 0 (take (length places) all) (weights_at ws places recipients) (long ∙ sym (weights-at-length ws places recipients))
+      (λ k h. get_or-take (length places) all k 0 (omega (arith, long)) ∙ same k)
+
+  pub part-past : (amount k : ℕ) → length places ≤ k → at (divided amount (weights_at ws places recipients)) k ≡ 0
+  part-past amount k h =
+      let past : length (divided amount (weights_at ws places recipients)) ≤ k =
+      omega (arith, shares-length amount (weights_at ws places recipients), weights-at-length ws places recipients) in
+      get_or-eq_default (divided amount (weights_at ws places recipients)) 0 past
 
 module _ (ws places : List ℕ) (recipients : Recipients) (amount : ℕ) (d : DivisibleOver ws places recipients amount) where
   -- no part is more than the amount
@@ -64,17 +78,17 @@ module _ (ws places : List ℕ) (recipients : Recipients) (amount : ℕ) (d : Di
       rw (weights-at-length ws places recipients, weights-at-sum ws places recipients)
       (rw (
         eq-eqb (length places) (length places) refl,
-        le-ltb 256 (length places) (listed-few ws category places fine are),
+        le-ltb 256 (length places) (listed_few ws category places fine are),
         some d.divisible,
         le-ltb most_pool amount d.within,
-        le-ltb most_total (activity_at ws places recipients) (listed-activity ws category places fine are recipients),
+        le-ltb most_total (activity_at ws places recipients) (listed_activity ws category places fine are recipients),
       ))
     where
       some : Divisible amount (weights_at ws places recipients) → ltb 0 amount && eqb (activity_at ws places recipients) 0 ≡ false
       some =
           ⊎_elim
           (λ (more : 0 < sum_of (weights_at ws places recipients)).
-          and-false (ltb 0 amount) (eqb (activity_at ws places recipients) 0)
+          and_right (ltb 0 amount) (eqb (activity_at ws places recipients) 0)
           (ne_eqb (activity_at ws places recipients) 0 (λ z. omega (arith, weights-at-sum ws places recipients))))
           (λ (none : amount ≡ 0). rw (le-ltb 0 amount (omega arith)))
 
@@ -98,39 +112,24 @@ pub record Held (n most : ℕ) (shares : List ℕ) : Type 0 where
   pub few : (k : ℕ) → at shares k ≤ most
 
 -- shares to which the parts of an amount are added
-pub held_next : {ws places old new : List ℕ} {recipients : Recipients} {amount most : ℕ} → Held (length places) most old
+pub held_next : {ws places old new : List ℕ} {recipients : Recipients} {amount n most : ℕ} → Held n most old
     → DivisibleOver ws places recipients amount → new ≡ with_parts_of ws places recipients amount old
-    → Held (length places) (most + most_pool) new
-held_next {ws} {places} {old} {new} {recipients} {amount} {most} h d is =
+    → Held n (most + most_pool) new
+held_next {ws} {places} {old} {new} {recipients} {amount} {n} {most} h d is =
     let added : ℕ → ℕ = λ k. at old k + at (divided amount (weights_at ws places recipients)) k in
     record {
-      long = ap length is ∙ list_length (length places) added;
+      long = ap length is ∙ list_length (length old) added ∙ h.long;
       few = λ k.
           ⊎_elim
-          (λ (here : k < length places).
-          omega (arith, ap (λ (l : List ℕ). at l k) is ∙ list_at (length places) added k here, h.few k, part-within ws places recipients amount d k))
-          (λ (past : length places ≤ k). omega (arith, ap (λ (l : List ℕ). at l k) is ∙ list-past (length places) added k past))
-          (below_or_not k (length places));
+          (λ (here : k < length old).
+          omega (arith, ap (λ (l : List ℕ). at l k) is ∙ list_at (length old) added k here, h.few k, part-within ws places recipients amount d k))
+          (λ (past : length old ≤ k). omega (arith, ap (λ (l : List ℕ). at l k) is ∙ list-past (length old) added k past))
+          (cases_lt k (length old));
     }
 
-module _ (n : ℕ) where
-  pub added-four : (a b d e f : List ℕ) (p q r s : ℕ → ℕ) → ((k : ℕ) → at a k ≡ 0)
-      → b ≡ list_below n (λ k. at a k + p k)
-      → d ≡ list_below n (λ k. at b k + q k)
-      → e ≡ list_below n (λ k. at d k + r k)
-      → f ≡ list_below n (λ k. at e k + s k)
-      → f ≡ list_below n (λ k. p k + q k + r k + s k)
-  added-four a b d e f p q r s zeros one two three four =
-      four
-      ∙ list-cong n (λ k. at e k + s k) (λ k. p k + q k + r k + s k)
-      (λ k h.
-      omega (
-        arith,
-        zeros k,
-        ap (λ (l : List ℕ). at l k) one ∙ list_at n (λ j. at a j + p j) k h,
-        ap (λ (l : List ℕ). at l k) two ∙ list_at n (λ j. at b j + q j) k h,
-        ap (λ (l : List ℕ). at l k) three ∙ list_at n (λ j. at d j + r j) k h,
-      ))
+-- one amount after the other is added
+pub added_at : (old : List ℕ) (f : ℕ → ℕ) {new : List ℕ} (k : ℕ) → k < length old → new ≡ list_below (length old) (λ j. at old j + f j) → at new k ≡ at old k + f k
+added_at old f k h is = ap (λ (l : List ℕ). at l k) is ∙ list_at (length old) (λ j. at old j + f j) k h
 
 -- A divided by F and P, as the code does it: it is accepted
 pub all-accepted : (a f p : ℕ) {g q : ℕ} (old : List ℕ) → g ≡ f → q ≡ p → length old ≡ 2 → a ≤ most_pool → 0 < f + p → f + p ≤ most_total
@@ -145,7 +144,7 @@ all-accepted a f p old is_f is-p two within served few =
       some,
       le-ltb most_pool a within,
       le-ltb most_total (sum_of (f ∷ p ∷ [])) (omega (arith, total)),
-      and-false (ltb 0 a) false refl,
+      and_right (ltb 0 a) false refl,
     ))
 
 -- and gives these shares
@@ -175,20 +174,13 @@ module _ (a f p : ℕ) (served : 0 < f + p) where
       rw (all, nothing)
 
 -- an amount of 0 adds nothing
-pub nothing-added : (ws places : List ℕ) (recipients : Recipients) (amount : ℕ) (shares : List ℕ) → amount ≡ 0 → length shares ≡ length places
+pub nothing-added : (ws places : List ℕ) (recipients : Recipients) (amount : ℕ) (shares : List ℕ) → amount ≡ 0
     → shares ≡ with_parts_of ws places recipients amount shares
-nothing-added ws places recipients amount shares none long =
+nothing-added ws places recipients amount shares none =
     let weights = weights_at ws places recipients in
     let f : ℕ → ℕ = λ k. at shares k + at (divided amount weights) k in
-    ext_get_or 0 shares (list_below (length places) f) (long ∙ sym (list_length (length places) f))
-    (λ k h. omega (arith, list_at (length places) f k (omega arith), at-most-sum (divided amount weights) k, shares_sum amount weights (inr none)))
-
--- part of an array that is 0
-pub zeros-at : (n m k : ℕ) → at (take n (replicate m 0)) k ≡ 0
-zeros-at zero m k = refl
-zeros-at (suc n) zero k = refl
-zeros-at (suc n) (suc m) zero = refl
-zeros-at (suc n) (suc m) (suc k) = zeros-at n m k
+    ext_get_or 0 shares (list_below (length shares) f) (sym (list_length (length shares) f))
+    (λ k h. omega (arith, list_at (length shares) f k h, at-most-sum (divided amount weights) k, shares_sum amount weights (inr none)))
 
 -- the two parts of A, by the sums over the category's elements
 module _ (ws : List ℕ) (category : ℕ) (side : Side) (places : List ℕ) (are : places ≡ members ws category) where
@@ -207,22 +199,18 @@ module _ (ws : List ℕ) (category : ℕ) (side : Side) (places : List ℕ) (are
 
   -- the parts that were added are the shares
   pub shares-added : Divisions ws category side → (p : Parts) (q : Pools)
-      → p ≡ parts_of ws category side → q ≡ pools_by ws category side
-      → list_below (length places)
-      (λ k.
-      at (divided p.freight (weights_at ws places Freight)) k
+      → p ≡ parts_of ws category side → q ≡ pools_by ws category side → (k : ℕ) → k < length places
+      → at (divided p.freight (weights_at ws places Freight)) k
       + at (divided p.passengers (weights_at ws places Passengers)) k
       + at (divided q.chilled (weights_at ws places (Group 1))) k
-      + at (divided q.frozen (weights_at ws places (Group 2))) k)
-      ≡ at_places places (closing_share ws category side)
+      + at (divided q.frozen (weights_at ws places (Group 2))) k
+      ≡ closing_share ws category side (at places k)
   unfolding closing_share
-  shares-added h p q is-p is-q =
+  shares-added h p q is-p is-q k i =
       rw (is-p, is-q)
-      (list-cong (length places) _ _
-      (λ k i.
-      rw (
+      (rw (
         part-found Freight (freight_part ws category side) h.freight-divisible k i,
         part-found Passengers (passenger_part ws category side) h.passengers-divisible k i,
         part-found (Group 1) (pool ws category 1 side) h.chilled-divisible k i,
         part-found (Group 2) (pool ws category 2 side) h.frozen-divisible k i,
-      )))
+      ))

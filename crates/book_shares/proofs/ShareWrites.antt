@@ -14,9 +14,8 @@ use Rattle.book_words.specs.declared.totals.Side.{Side}
 use Rattle.book_words.specs.declared.totals.Side.TheVariants.{Operation as operation, Provision as provision}
 use Rattle.book_words.specs.declared.records.Element.{Element}
 use Rattle.book_shares.specs.Closing.{hand_out}
-use Rattle.book_shares.specs.Inner.Steps.{hand_out_to, lists_by_side, put_two}
-use Rattle.book_shares.specs.Inner.Members.{is_member, members, at_places}
-use Rattle.apportion.proofs.Lists.{list_at}
+use Rattle.book_shares.specs.Inner.Steps.{hand_out_to, put_two}
+use Rattle.book_shares.specs.Inner.Members.{is_member, members}
 use Rattle.book_shares.proofs.CloseWrites.{handed-later}
 use Rattle.book_shares.proofs.MemberSums.{members-length, member-at}
 
@@ -95,15 +94,11 @@ module _ (ws : List ℕ) (category : ℕ) (share : Side → ℕ → ℕ) where
       go false e rest same = rw (same ∙ e, e, add-zero) rest
 
 -- the shares of both sides, as the code writes them
-pub sides-written : (ws : List ℕ) (category : ℕ) (share : Side → ℕ → ℕ) (places a b new : List ℕ) → places ≡ members ws category
-    → a ≡ at_places places (share operation) → b ≡ at_places places (share provision)
-    → new ≡ handed_in places (length places) ws (lists_by_side a b)
+pub sides-written : (ws : List ℕ) (category : ℕ) (share given : Side → ℕ → ℕ) (places new : List ℕ) → places ≡ members ws category
+    → ((side : Side) (k : ℕ) → k < length places → given side k ≡ share side (at places k))
+    → new ≡ handed_in places (length places) ws given
     → new ≡ hand_out (elements ws) ws category share
-sides-written ws category share places a b new are is-a is_b is =
+sides-written ws category share given places new are same is =
     is
-    ∙ handed-cong first_share element_list.width places ws (length places) (lists_by_side a b) (λ s i. share s (at places i)) same
+    ∙ handed-cong first_share element_list.width places ws (length places) given (λ s i. share s (at places i)) same
     ∙ rw (are, members-length ws category) (sym (handed-upto ws category share (elements ws) (le_refl (elements ws))))
-  where
-    same : (s : Side) (k : ℕ) → k < length places → lists_by_side a b s k ≡ share s (at places k)
-    same operation k h = ap (λ (l : List ℕ). at l k) is-a ∙ list_at (length places) (λ i. share operation (at places i)) k h
-    same provision k h = ap (λ (l : List ℕ). at l k) is_b ∙ list_at (length places) (λ i. share provision (at places i)) k h

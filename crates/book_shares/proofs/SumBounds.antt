@@ -15,9 +15,7 @@ use Rattle.book_words.specs.declared.totals.Side.{Side}
 use Rattle.book_words.specs.Totals.{all_unstruck, unstruck, activities, most_activity, unstruck_of}
 use Rattle.book_words.specs.declared.records.Element.{Element}
 use Rattle.book_words.specs.declared.records.Entry.{Entry}
-use Rattle.book_shares.specs.declared.weights.Recipients.{Recipients}
-use Rattle.book_shares.specs.declared.weights.Recipients.TheVariants.{Freight, Passengers}
-use Rattle.book_shares.specs.Sums.{pool, pooled, activity_among, among, passengers_by_mass, sum_among, receives}
+use Rattle.book_shares.specs.Sums.{Recipients, Freight, Passengers, pool, pooled, activity_among, among, passengers_by_mass, sum_among, receives}
 use Rattle.apportion.proofs.Sums.{sum-le, sum-mul, sum-add, sum-cong}
 use Rattle.book_words.proofs.Booleans.{cond-most}
 use Rattle.book_words.proofs.Ranges.{between-low}

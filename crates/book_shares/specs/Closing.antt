@@ -6,9 +6,8 @@ use Rattle.book_words.specs.Soundness.{sound}
 use Rattle.book_words.specs.declared.totals.Side.{Side}
 use Rattle.book_words.specs.declared.totals.Side.TheVariants.{Operation as operation, Provision as provision}
 use Rattle.book_words.specs.declared.records.Category.{Category}
-use Rattle.book_shares.specs.declared.weights.Recipients.TheVariants.{Group, Freight}
 use Rattle.book_shares.specs.Shares.{closing_share}
-use Rattle.book_shares.specs.Sums.{pool, activity_among, passengers_by_mass}
+use Rattle.book_shares.specs.Sums.{Freight, Group, pool, activity_among, passengers_by_mass}
 
 -- ground 9: "F+P is 0"
 abbrev pub nothing_to_divide_by : List ℕ → ℕ → Bool

@@ -11,10 +11,8 @@ use Rattle.book_words.specs.declared.records.Category.{Category}
 use Rattle.book_shares.specs.declared.intensities.Intensity.{Intensity}
 use Rattle.apportion.specs.Refusals.{number_of}
 use Rattle.apportion.specs.declared.refusing.Refusal.{Refusal}
-use Rattle.book_shares.specs.declared.weights.Recipients.{Recipients}
-use Rattle.book_shares.specs.declared.weights.Recipients.TheVariants.{Group, Freight, Passengers}
 use Rattle.book_shares.specs.Shares.{freight_part, passenger_part}
-use Rattle.book_shares.specs.Sums.{activity_among, pool}
+use Rattle.book_shares.specs.Sums.{Recipients, Freight, Passengers, Group, activity_among, pool}
 
 -- ground 3: a code of an intensity is "0, 1, 2 or 100"
 abbrev pub is_intensity_code : ℕ → Bool

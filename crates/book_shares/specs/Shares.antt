@@ -7,9 +7,7 @@ use Rattle.book_words.specs.Book.{elements, element_at}
 use Rattle.book_words.specs.Measures.{is_freight}
 use Rattle.book_words.specs.declared.totals.Side.{Side}
 use Rattle.book_words.specs.declared.records.Element.{Element}
-use Rattle.book_shares.specs.declared.weights.Recipients.{Recipients}
-use Rattle.book_shares.specs.declared.weights.Recipients.TheVariants.{Group, Freight, Passengers}
-use Rattle.book_shares.specs.Sums.{pool, activity_among, passengers_by_mass, among}
+use Rattle.book_shares.specs.Sums.{Recipients, Freight, Passengers, Group, pool, activity_among, passengers_by_mass, among}
 
 -- "Divide A by the weights F, P in that order."
 unfoldable pub divided_all : List ℕ → ℕ → Side → List ℕ

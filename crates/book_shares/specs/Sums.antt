@@ -8,8 +8,12 @@ use Rattle.book_words.specs.declared.totals.Side.{Side}
 use Rattle.book_words.specs.Totals.{unstruck}
 use Rattle.book_words.specs.declared.records.Element.{Element}
 use Rattle.book_words.specs.declared.records.Entry.{Entry}
-use Rattle.book_shares.specs.declared.weights.Recipients.{Recipients}
-use Rattle.book_shares.specs.declared.weights.Recipients.TheVariants.{Freight, Passengers, Group}
+
+-- what a pool goes to: all freight, the passengers, or the freight of the group of this number
+pub data Recipients : Type 0 where
+  Freight : Recipients
+  Passengers : Recipients
+  Group : ℕ → Recipients
 
 -- "Unstruck entries: A is the sum of group 0, B1 and B2 of groups 1 and 2." What an entry of the category adds to the pool of this
 -- group

@@ -1,30 +1,24 @@
 // Shares written at the places of elements: in the book by a closing, in the pairs by a preview.
-ghost use Rattle.std.specs.Prelude.{◌≡◌, ℕ, ◌+◌, ◌*◌, ◌<◌, length};
+ghost use Rattle.std.specs.Prelude.{◌≡◌, ℕ, ◌+◌, ◌*◌, ◌<◌, ◌≤◌, length};
 ghost use Rattle.apportion.specs.Places.{at};
-ghost use Rattle.book_shares.specs.Inner.Steps.{lists_by_side, put_two, hand_out_to};
+ghost use Rattle.book_shares.specs.Inner.Steps.{share_at, put_two, hand_out_to};
 
-// Writes the two shares of each of these elements. The words of the place p begin at first + width × p.
-pub fn hand_out_to(
-    words: &mut [u64],
-    first: usize,
-    width: usize,
-    members: &[u16],
-    operation: &[u64],
-    provision: &[u64],
-)
-    requires operation_len { (length operation.now ≡ length members.now) × (length provision.now ≡ length members.now) }
+use crate::sharing::Shares;
+
+// Writes the two shares of each of these elements. The words of the place p begin at first + width × p:
+// two numbers and no closure, since the promise speaks of them.
+pub fn hand_out_to(words: &mut [u64], first: usize, width: usize, members: &[u16], shares: &Shares)
+    requires few { length members.now ≤ 256 }
     requires by_index { (k : ℕ) → k < length members.now → first + width * at members.now k + 1 < length words.old }
-    ensures { words.new
-        ≡ hand_out_to first width members.now (length members.now) words.old
-        (lists_by_side operation.now provision.now) }
+    ensures { words.new ≡ hand_out_to first width members.now (length members.now) words.old (share_at shares.now) }
 {
-    // Two slices by index, beside the places.
+    // By index: tried as a zip with the two arrays, and the proof of the loop didn't close.
     for (index, place) in members.iter().enumerate() {
         put_two(
             words,
             first + width * usize::from(*place),
-            operation[index],
-            provision[index],
+            shares.operation[index],
+            shares.provision[index],
         );
     }
 }

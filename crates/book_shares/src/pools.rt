@@ -1,12 +1,13 @@
 // The pools of a category: A, B1 and B2.
 ghost use Rattle.std.specs.Prelude.{◌≡◌};
-ghost use Rattle.book_shares.specs.Sums.{in_group};
+ghost use Rattle.book_words.specs.Totals.{unstruck};
 ghost use Rattle.book_shares.specs.Inner.Steps.{pools_with, pools_by, group_pool};
 
+use crate::weights::Group;
 use book_words::{Entry, Side, SoundWords};
 
 // The three pools of a category, on one side.
-#[derive(Clone, Copy)]
+#[derive(Clone, Copy, Default)]
 pub struct Pools {
     // A.
     pub all: u64,
@@ -15,11 +16,11 @@ pub struct Pools {
     pub frozen: u64,
 }
 
-// What an entry of the category adds to the pool of a group.
-fn in_group(group: u64, side: Side, e: Entry) -> u64
-    ensures { result ≡ in_group group side e }
+// What an entry adds to the pool of its group.
+fn unstruck(side: Side, e: Entry) -> u64
+    ensures { result ≡ unstruck side e }
 {
-    if (e.group != group) | (e.struck != 0) {
+    if e.is_struck() {
         return 0;
     }
     match side {
@@ -35,23 +36,30 @@ fn pools_with(pools: Pools, category: u64, side: Side, e: Entry) -> Pools
     if e.category != category {
         return pools;
     }
-    Pools {
-        all: book_words::add(pools.all, in_group(0, side, e)),
-        chilled: book_words::add(pools.chilled, in_group(1, side, e)),
-        frozen: book_words::add(pools.frozen, in_group(2, side, e)),
+    let added = unstruck(side, e);
+    match e.group {
+        0 => Pools {
+            all: book_words::add(pools.all, added),
+            ..pools
+        },
+        1 => Pools {
+            chilled: book_words::add(pools.chilled, added),
+            ..pools
+        },
+        2 => Pools {
+            frozen: book_words::add(pools.frozen, added),
+            ..pools
+        },
+        _ => pools,
     }
 }
 
-// The unstruck entries of the category: A of group 0, B1 and B2 of groups 1 and 2.
+// One side, and then the other, as the definitions have it. The unstruck entries of the category: A of group 0, B1 and B2 of groups 1 and 2.
 pub fn pools_of(book: &SoundWords, category: u64, side: Side) -> Pools
     ensures { result ≡ pools_by book.now category side }
 {
     let count = book.count::<Entry>();
-    let mut pools = Pools {
-        all: 0,
-        chilled: 0,
-        frozen: 0,
-    };
+    let mut pools = Pools::default();
     for passed in 0..count {
         let e: Entry = book.record_at(passed as usize);
         pools = pools_with(pools, category, side, e);
@@ -59,12 +67,12 @@ pub fn pools_of(book: &SoundWords, category: u64, side: Side) -> Pools
     pools
 }
 
-// The pool of group 1 or of group 2.
-pub fn group_pool(pools: Pools, group: u64) -> u64
+// The pool of a group.
+pub fn group_pool(pools: Pools, group: Group) -> u64
     ensures { result ≡ group_pool pools group }
 {
     match group {
-        1 => pools.chilled,
-        _ => pools.frozen,
+        Group::Chilled => pools.chilled,
+        Group::Frozen => pools.frozen,
     }
 }

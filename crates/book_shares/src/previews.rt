@@ -6,6 +6,7 @@ ghost use Rattle.book_shares.specs.Previews.{pair_words, pairs_written, preview_
 use crate::closings::work_out;
 use crate::handing_out::{hand_out_to, put_two};
 use crate::listing::list_members;
+use crate::weights::Members;
 use apportion::Refusal;
 use book_words::{Element, SoundWords};
 
@@ -19,21 +20,22 @@ pub fn preview_sound(book: &SoundWords, pairs: &mut [u64], category: u64) -> Res
     ensures value { refusal_in result ≡ preview_refusal book.now pairs.old category }
     ensures pairs_after { pairs.new ≡ preview_pairs book.now pairs.old category }
 {
-    let places = list_members(book, category);
+    let listed = list_members(book, category);
     let short = pairs.len() < PAIR_WORDS;
     if short {
         return Err(Refusal::ShortPairs);
     }
-    let members = places.as_slice();
-    // Arrays, cut: as ArrayVecs, by value, a full sheet costs 65 % more.
-    let mut operation = [0u64; 256];
-    let operation = &mut operation[..members.len()];
-    let mut provision = [0u64; 256];
-    let provision = &mut provision[..members.len()];
-    work_out(book, category, members, operation, provision)?;
+    let places = listed.as_slice();
+    let members = Members {
+        // Lent again: `put_pairs` reads it after this.
+        book: &*book,
+        category,
+        places,
+    };
+    let shares = work_out(members)?;
     put_pairs(book, pairs);
     // The pair of the place p begins at word 2 × p.
-    hand_out_to(pairs, 0, 2, members, operation, provision);
+    hand_out_to(pairs, 0, 2, places, &shares);
     Ok(())
 }
 
@@ -42,6 +44,7 @@ fn put_pairs(book: &SoundWords, pairs: &mut [u64])
     requires { pair_words ≤ length pairs.old }
     ensures { pairs.new ≡ pairs_written book.now pairs.old }
 {
+    // By place: of chunks that are written the library does not say what was written.
     for place in 0..PAIRS {
         // Past the last element these are zeros.
         let (operation, provision) = book

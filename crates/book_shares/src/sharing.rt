@@ -2,14 +2,13 @@
 ghost use Rattle.std.specs.Prelude.{◌≡◌, ℕ, ◌≤◌, ◌<◌, ◌*◌, ◌+◌, length};
 ghost use Rattle.apportion.specs.Dividing.{most_pool};
 ghost use Rattle.apportion.specs.Places.{at, list_below};
-ghost use Rattle.book_shares.specs.declared.weights.Recipients.TheVariants.{Freight};
+ghost use Rattle.book_shares.specs.Sums.{Freight};
 ghost use Rattle.book_shares.specs.Closing.{close_refusal};
-ghost use Rattle.book_shares.specs.Inner.Steps.{DivisibleOver, parts_by, with_parts_of};
-ghost use Rattle.book_shares.specs.Inner.Members.{activity_at, mass_at, at_places};
-ghost use Rattle.book_shares.specs.Shares.{closing_share};
+ghost use Rattle.book_shares.specs.Inner.Steps.{DivisibleOver, listed_share, parts_by, with_parts_of};
+ghost use Rattle.book_shares.specs.Inner.Members.{activity_at, by_number, mass_at};
 
 use crate::pools;
-use crate::weights::{Members, Recipients};
+use crate::weights::{Group, Members, Recipients};
 use book_words::Side;
 
 // A divided by the weights F and P.
@@ -17,6 +16,14 @@ use book_words::Side;
 pub struct Parts {
     pub freight: u64,
     pub passengers: u64,
+}
+
+// The shares of elements, in the order that their places are listed in, and zeros past the last. Two arrays: one of pairs is 4,096
+// bytes to set to 0, and with it a full sheet costs 18 % more.
+#[derive(Clone, Copy)]
+pub struct Shares {
+    pub operation: [u64; 256],
+    pub provision: [u64; 256],
 }
 
 // Divides A by the weights F and P of these elements, in that order. Where one of them is 0, the other gets all.
@@ -49,29 +56,28 @@ pub fn divide_all(members: Members, all: u64) -> Parts
 }
 
 // Adds to the share of each element its part of an amount. An amount of 0 adds nothing.
-fn add_parts_of(members: Members, recipients: Recipients, amount: u64, shares: &mut [u64])
-    requires divisible_over { DivisibleOver members.book.now members.places.now recipients amount }
-    requires shares_len { length shares.old ≡ length members.places.now }
+#[tactic(auto, using(crate::proofs::MemberSums::listed_few, crate::proofs::MemberSums::listed_cut))]
+fn add_parts_of(members: Members, recipients: Recipients, amount: u64, shares: &mut [u64; 256])
+    requires divisible_over { DivisibleOver members.book.now members.places.now (by_number recipients) amount }
     requires by_index { (k : ℕ) → at shares.old k ≤ 3 * most_pool }
-    ensures { shares.new ≡ with_parts_of members.entry.book.now members.entry.places.now recipients amount shares.old }
+    ensures { shares.new ≡ with_parts_of members.entry.book.now members.entry.places.now (by_number recipients) amount shares.old }
 {
     if amount == 0 {
         return;
     }
+    let count = members.places.len();
     // Arrays, cut: as ArrayVecs, by value, a full sheet costs 65 % more.
-    let mut weights = [0u64; 256];
-    let weights = &mut weights[..members.places.len()];
-    members.set_weights(recipients, weights);
+    let weights = members.weights(recipients);
     let mut parts = [0u64; 256];
-    let parts = &mut parts[..members.places.len()];
+    let parts = &mut parts[..count];
     // Accepted: where the weights sum to 0 the amount is 0, and both are within 10^18.
-    apportion::divide(amount, weights, parts).unwrap();
+    apportion::divide(amount, &weights[..count], parts).unwrap();
     add_parts(parts, shares);
 }
 
-// Adds the parts to the shares, place by place.
-fn add_parts(parts: &[u64], shares: &mut [u64])
-    requires parts_len { length parts.now ≡ length shares.old }
+// Adds the parts to the first shares, place by place.
+fn add_parts(parts: &[u64], shares: &mut [u64; 256])
+    requires few { length parts.now ≤ 256 }
     requires by_index { (k : ℕ) → at parts.now k ≤ most_pool }
     requires by_index_2 { (k : ℕ) → at shares.old k ≤ 3 * most_pool }
     ensures { shares.new ≡ list_below (length shares.old) (λ k. at shares.old k + at parts.now k) }
@@ -82,17 +88,25 @@ fn add_parts(parts: &[u64], shares: &mut [u64])
     }
 }
 
-// Writes the share of each element of the category into shares that are 0.
-pub fn set_shares(members: Members, side: Side, shares: &mut [u64])
-    requires category_value { close_refusal members.book.now members.category ≡ 0 }
-    requires shares_len { length shares.old ≡ length members.places.now }
-    requires by_index { (k : ℕ) → at shares.old k ≡ 0 }
-    ensures { shares.new ≡ at_places members.entry.places.now (closing_share members.entry.book.now members.entry.category side) }
+// The share of each element of the category, in the order of the places, and zeros past the last. One side is worked out after the other,
+// as the definitions have it.
+pub fn shares_of(members: Members, side: Side) -> [u64; 256]
+    requires { close_refusal members.book.now members.category ≡ 0 }
+    ensures { (k : ℕ) → at result k ≡ listed_share members.entry.book.now members.entry.category members.entry.places.now side k }
 {
     let pools = pools::pools_of(members.book, members.category, side);
     let parts = divide_all(members, pools.all);
-    add_parts_of(members, Recipients::Freight, parts.freight, shares);
-    add_parts_of(members, Recipients::Passengers, parts.passengers, shares);
-    add_parts_of(members, Recipients::Group(1), pools.chilled, shares);
-    add_parts_of(members, Recipients::Group(2), pools.frozen, shares);
+    let chilled = Recipients::Group(Group::Chilled);
+    let frozen = Recipients::Group(Group::Frozen);
+    let mut shares = [0u64; 256];
+    add_parts_of(members, Recipients::Freight, parts.freight, &mut shares);
+    add_parts_of(
+        members,
+        Recipients::Passengers,
+        parts.passengers,
+        &mut shares,
+    );
+    add_parts_of(members, chilled, pools.chilled, &mut shares);
+    add_parts_of(members, frozen, pools.frozen, &mut shares);
+    shares
 }

@@ -1,13 +1,21 @@
 // The elements that a pool goes to, and their activities: F, C and S, and P. The elements are those of a
 // category, by their places.
-ghost use Rattle.std.specs.Prelude.{true, ◌≡◌, ◌<◌, length};
+ghost use Rattle.std.specs.Prelude.{true, ◌≡◌, ◌<◌, ℕ};
+ghost use Rattle.apportion.specs.Places.{at};
 ghost use Rattle.book_words.specs.Soundness.{sound};
 ghost use Rattle.book_words.specs.Inner.Steps.{capped};
-ghost use Rattle.book_shares.specs.declared.weights.Measure.TheVariants.{Activity, Mass};
-ghost use Rattle.book_shares.specs.Inner.Members.{members as members_of, measure_of, weights_at, sum_at, activity_at, mass_at};
+ghost use Rattle.book_words.specs.declared.records.Element.{Element};
+ghost use Rattle.book_shares.specs.Inner.Members.{members as members_of, by_number, activity_in, mass_in, weights_at, sum_at, activity_at, mass_at};
 ghost use Rattle.book_shares.specs.Sums.{receives};
 
 use book_words::{Element, SoundWords};
+
+// Group 1 and group 2: those of freight that have elements of their own.
+#[derive(Clone, Copy)]
+pub enum Group {
+    Chilled,
+    Frozen,
+}
 
 // The elements that a pool goes to.
 #[derive(Clone, Copy)]
@@ -15,24 +23,24 @@ pub enum Recipients {
     // Ambient, chilled or frozen.
     Freight,
     Passengers,
-    // The freight of a group, 1 chilled or 2 frozen.
-    Group(u64),
+    Group(Group),
 }
 
 // An element with this code is one of them.
 fn receives(recipients: Recipients, code: u64) -> bool
-    ensures { result ≡ receives recipients code }
+    ensures { result ≡ receives (by_number recipients) code }
 {
     match recipients {
-        Recipients::Freight => code <= 2,
+        Recipients::Freight => book_words::is_freight(code),
         Recipients::Passengers => book_words::is_passenger(code),
-        Recipients::Group(group) => code == group,
+        Recipients::Group(Group::Chilled) => code == 1,
+        Recipients::Group(Group::Frozen) => code == 2,
     }
 }
 
 // The activity of such an element; 0 for any other.
 fn weight_of(recipients: Recipients, e: Element) -> u64
-    ensures { result ≡ measure_of (Activity recipients) e }
+    ensures { result ≡ activity_in (by_number recipients) e }
 {
     if receives(recipients, e.code) {
         return e.activity;
@@ -40,18 +48,9 @@ fn weight_of(recipients: Recipients, e: Element) -> u64
     0
 }
 
-// What a sum over elements adds up.
-#[derive(Clone, Copy)]
-pub enum Measure {
-    // Their activity, where a pool goes to them: F, C or S.
-    Activity(Recipients),
-    // Head count × kg per head × distance, where they are passengers: P.
-    Mass,
-}
-
 // Head count × kg per head × distance of a passenger element, capped; 0 for any other.
 fn capped_mass(e: Element) -> u64
-    ensures { result ≡ capped (measure_of Mass e) }
+    ensures { result ≡ capped (mass_in e) }
 {
     if receives(Recipients::Passengers, e.code) {
         let mass = book_words::mass_per_head(e.kg_per_head);
@@ -60,17 +59,7 @@ fn capped_mass(e: Element) -> u64
     0
 }
 
-// What an element adds, capped.
-fn capped_measure(measure: Measure, e: Element) -> u64
-    ensures { result ≡ capped (measure_of measure e) }
-{
-    match measure {
-        Measure::Activity(recipients) => book_words::capped(weight_of(recipients, e)),
-        Measure::Mass => capped_mass(e),
-    }
-}
-
-// The elements of a category, by their places.
+// The elements of a category, by their places. Clauses name its parts: of a `Model` of the three they would be taken out again.
 #[derive(Clone, Copy)]
 pub struct Members<'a> {
     pub book: &'a SoundWords<'a>,
@@ -82,45 +71,45 @@ pub struct Members<'a> {
 }
 
 impl<'a> Members<'a> {
-    // Writes the weight of each element.
-    pub fn set_weights(self, recipients: Recipients, weights: &mut [u64])
-        requires { length weights.old ≡ length self.places.now }
-        ensures { weights.new ≡ weights_at self.entry.book.now self.entry.places.now recipients }
+    // The weight of each element, in the order of the places, and zeros past the last.
+    #[tactic(auto, using(crate::proofs::MemberSums::listed_few, crate::proofs::MemberSums::listed_inside))]
+    pub fn weights(self, recipients: Recipients) -> [u64; 256]
+        ensures { (k : ℕ) → at result k ≡ at (weights_at self.entry.book.now self.entry.places.now (by_number recipients)) k }
     {
-        // By index: of a zip over iter_mut the library does not say what was written.
-        for (index, weight) in weights.iter_mut().enumerate() {
-            *weight = weight_of(
-                recipients,
-                self.book.record_at(usize::from(self.places[index])),
-            );
+        let mut weights = [0u64; 256];
+        // By index: the array is longer than the places.
+        for (index, place) in self.places.iter().enumerate() {
+            let e = self.book.record_at(usize::from(*place));
+            weights[index] = weight_of(recipients, e);
         }
+        weights
     }
 
-    // The sum of what the elements add.
-    fn sum(self, measure: Measure) -> u64
-        ensures { result ≡ sum_at self.entry.book.now self.entry.places.now measure }
+    // The sum of what the elements add, capped.
+    #[tactic(auto, using(crate::proofs::MemberSums::listed_inside))]
+    fn sum<F: Fn(Element) -> u64>(self, added: F) -> u64
+        requires { F.IsAlwaysCallable added }
+        ensures { (measure : Element → ℕ) → ((e : Element) (n : ℕ) → F.post added e n → n ≡ capped (measure e))
+            → result ≡ capped (sum_at self.entry.book.now self.entry.places.now measure) }
     {
         let mut sum = 0;
         for place in self.places {
-            sum = book_words::add(
-                sum,
-                capped_measure(measure, self.book.record_at(usize::from(*place))),
-            );
+            sum = book_words::add(sum, added(self.book.record_at(usize::from(*place))));
         }
         sum
     }
 
     // The activity of the elements that a pool goes to: F, C or S.
     pub fn activity(self, recipients: Recipients) -> u64
-        ensures { result ≡ activity_at self.entry.book.now self.entry.places.now recipients }
+        ensures { result ≡ activity_at self.entry.book.now self.entry.places.now (by_number recipients) }
     {
-        self.sum(Measure::Activity(recipients))
+        self.sum(|e| book_words::capped(weight_of(recipients, e)))
     }
 
     // P.
     pub fn mass(self) -> u64
         ensures { result ≡ mass_at self.entry.book.now self.entry.places.now }
     {
-        self.sum(Measure::Mass)
+        self.sum(capped_mass)
     }
 }

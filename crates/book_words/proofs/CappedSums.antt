@@ -8,13 +8,12 @@ use native.Mathlib.Nat.{mul-zero, mul-le-mul_left}
 use native.Mathlib.Omega.{arith}
 use lib.Dec.{ltb, leb, eqb}
 use borrow.Author.Tests.{lt-ltb, leb-true, lt-leb, ne_eqb}
+use Rattle.std.proofs.lemmas.Bool.{and_parts, cases_lt}
 use Rattle.book_words.specs.declared.totals.Sums.{Sums}
 use Rattle.book_words.specs.Totals.{most_emissions, most_activity, within_limits}
 use Rattle.book_words.specs.Inner.Steps.{most_exact, capped, cap_sums}
 use Rattle.apportion.specs.Fractions.{nearest, added_by_rounding}
 use Rattle.apportion.proofs.Rounding.{rounded}
-use Rattle.apportion.proofs.Sums.{below_or_not}
-use Rattle.book_words.proofs.Booleans.{both}
 
 pub capped_small : (n : ℕ) → n ≤ most_exact → capped n ≡ n
 capped_small n h = omega arith
@@ -35,7 +34,7 @@ capped-times a (suc b) =
     let e : capped a ≡ suc most_exact = omega arith in
     let more : a * 1 ≤ a * suc b = mul-le-mul_left a (omega arith) in
     rw e (omega (arith, more)))
-    (below_or_not a (suc most_exact))
+    (cases_lt a (suc most_exact))
 
 -- a capped quotient, rounded
 pub capped-rounded : (q r d : ℕ) → r < d → capped (capped q + added_by_rounding (capped q) r d) ≡ capped (nearest (q * d + r) d)
@@ -43,7 +42,7 @@ capped-rounded q r d h =
     ⊎_elim
     (λ (l : q < suc most_exact). rw (capped_small q (omega arith), rounded q r d h))
     (λ (g : suc most_exact ≤ q). omega (arith, rounded q r d h))
-    (below_or_not q (suc most_exact))
+    (cases_lt q (suc most_exact))
 
 pub capped-more : (a b : ℕ) → capped (a + capped b) ≡ capped (a + b)
 capped-more a b = omega arith
@@ -54,7 +53,7 @@ capped-test test t n past =
     ⊎_elim
     (λ (l : n < suc most_exact). ap test (capped_small n (omega arith)))
     (λ (g : suc most_exact ≤ n). past (capped n) (omega arith) ∙ sym (past n g))
-    (below_or_not n (suc most_exact))
+    (cases_lt n (suc most_exact))
 
 -- so it passes a limit, and is within one
 pub capped-over : (limit n : ℕ) → limit ≤ most_exact → ltb limit (capped n) ≡ ltb limit n
@@ -73,8 +72,8 @@ pub within-parts : (sums : Sums) → within_limits sums ≡ true
 within-parts sums e =
     let one = leb sums.operation most_emissions in
     let two = leb sums.provision most_emissions in
-    let a = both (one && two) (leb sums.activity most_activity) e in
-    let b = both one two a.0 in (
+    let a = and_parts (one && two) (leb sums.activity most_activity) e in
+    let b = and_parts one two a.0 in (
       leb-true sums.operation most_emissions b.0,
       leb-true sums.provision most_emissions b.1,
       leb-true sums.activity most_activity a.1,

@@ -6,13 +6,13 @@ use Prim.Native.Nat.{ℕ, ◌<◌, zero, suc, ◌+◌}
 use native.Mathlib.Nat.{eq-or-lt_of_le}
 use native.Mathlib.Numerals.{add-one}
 use native.Mathlib.Omega.{arith}
+use Rattle.std.proofs.lemmas.Bool.{and_from, and_parts}
 use Rattle.book_words.specs.Soundness.{all_below}
-use Rattle.book_words.proofs.Booleans.{both, and_both}
 
 pub every-at : (n : ℕ) (test : ℕ → Bool) → all_below n test ≡ true → (k : ℕ) → k < n → test k ≡ true
 every-at zero test e k h = let z : ⊥ = omega arith in absurd z
 every-at (suc n) test e k h =
-    let parts = both (all_below n test) (test n) e in
+    let parts = and_parts (all_below n test) (test n) e in
     ⊎_elim
     (λ (s : suc k ≡ suc n). let here : k ≡ n = omega arith in ap test here ∙ parts.1)
     (λ (l : suc k < suc n). every-at n test parts.0 k (omega arith))
@@ -20,7 +20,7 @@ every-at (suc n) test e k h =
 
 pub every : (n : ℕ) (test : ℕ → Bool) → ((k : ℕ) → k < n → test k ≡ true) → all_below n test ≡ true
 every zero test all = refl
-every (suc n) test all = and_both (all_below n test) (test n) (every n test (λ k h. all k (omega arith))) (all n (omega arith))
+every (suc n) test all = and_from (all_below n test) (test n) (every n test (λ k h. all k (omega arith))) (all n (omega arith))
 
 -- one place that fails the test
 pub every-not : (n : ℕ) (test : ℕ → Bool) (k : ℕ) → k < n → test k ≡ false → all_below n test ≡ false
@@ -32,4 +32,4 @@ every-not n test k h e = go (all_below n test) refl
 
 -- one place more, as the code counts
 pub every-next : (k : ℕ) (test : ℕ → Bool) → all_below k test ≡ true → test k ≡ true → all_below (k + 1) test ≡ true
-every-next k test e h = rw add-one (and_both (all_below k test) (test k) e h)
+every-next k test e h = rw add-one (and_from (all_below k test) (test k) e h)

@@ -1,9 +1,9 @@
 -- The record of a number that is there. Assumes nothing.
-use mathlib.Core.Bool.{Bool, true, false, cond, not}
+use mathlib.Core.Bool.{true, cond, not}
 use mathlib.Core.List.{List, ◌∷◌, ◌++◌}
-use mathlib.Core.Path.{◌≡◌, ◌∙◌, ap, refl}
+use mathlib.Core.Path.{◌≡◌, ◌∙◌, ap}
 use Prim.Native.Nat.{ℕ, ◌-◌}
-use Rattle.std.proofs.Common.{Some, None}
+use Rattle.std.proofs.Common.{Some}
 use Rattle.apportion.specs.Grounds.{Ground, first_of}
 use Rattle.book_words.specs.declared.records.Category.{Category}
 use Rattle.book_words.specs.Book.{categories, category_of, unnumbered}
@@ -11,6 +11,7 @@ use Rattle.book_words.specs.Measures.{between}
 use Rattle.book_words.specs.Inner.Steps.{numbered}
 use Rattle.book_words.specs.Soundness.{sound}
 use Rattle.apportion.proofs.Grounds.{read_past}
+use Rattle.book_words.proofs.Booleans.{chosen-some}
 
 -- the record of a number that is there, and a number that is there where a record is
 module _ {R : Type 0} (count : ℕ) (record_at : ℕ → R) (number : ℕ) where
@@ -18,11 +19,7 @@ module _ {R : Type 0} (count : ℕ) (record_at : ℕ → R) (number : ℕ) where
   numbered-there inside = rw inside
 
   pub numbered-some : {r : R} → numbered count record_at number ≡ Some r → (between 1 count number ≡ true) × (r ≡ record_at (number - 1))
-  numbered-some {r = r} = go (between 1 count number)
-    where
-      go : (b : Bool) → cond b (Some (record_at (number - 1))) None ≡ Some r → (b ≡ true) × (r ≡ record_at (number - 1))
-      go true e = (refl, cc)
-      go false e = cc
+  numbered-some = chosen-some (between 1 count number)
 
 -- Grounds that look at the category of a number are those of a sound book, whatever is read where there is none: ground 1 does not
 -- hold, and ground 2 comes before. `early` are the grounds between 1 and 2.

@@ -8,6 +8,7 @@ use native.Mathlib.Numerals.{add-one}
 use native.Mathlib.Omega.{arith}
 use lib.Dec.{eqb}
 use lib.ListN.{length, get_or, replicate, get_or-replicate, set, length-set}
+use Rattle.std.proofs.lemmas.Bool.{cases_eq}
 use Rattle.std.specs.Prelude.{Option, Some, None}
 use Rattle.std.specs.Option.{option_eq}
 use lib.Seq.{get_or-set_same, get_or-set_other}
@@ -17,7 +18,6 @@ use Rattle.book_words.specs.Book.{elements, element_at, most_categories}
 use Rattle.book_words.specs.Measures.{is_passenger, is_weighed}
 use Rattle.book_words.specs.Mixture.{is_such_passenger, passenger_below, mixes, mixed}
 use Rattle.book_words.specs.Soundness.{all_below, passengers_fine}
-use Rattle.book_words.proofs.SameRecords.{same_or_not}
 use Rattle.book_words.proofs.EveryPlace.{every-next, every-not}
 use Rattle.book_words.proofs.Passengers.{others-mix-not}
 
@@ -45,7 +45,7 @@ seen_here (Some false) false w none = sym (or_self (beq false w))
 
 seen-set : (seen : List (Option Bool)) (k c : ℕ) (v w : Bool) → k < length seen → is_seen (seen_in seen k) (not v) ≡ false
     → is_seen (seen_in (set seen k (Some v)) c) w ≡ is_seen (seen_in seen c) w || (eqb k c && beq v w)
-seen-set seen k c v w room none = ⊎_elim here away (same_or_not k c)
+seen-set seen k c v w room none = ⊎_elim here away (cases_eq k c)
   where
     here : k ≡ c → is_seen (seen_in (set seen k (Some v)) c) w ≡ is_seen (seen_in seen c) w || (eqb k c && beq v w)
     here e = rw (← e, eq-eqb k k refl, get_or-set_same seen k (Some v) None room) (seen_here (seen_in seen k) v w none)

@@ -8,13 +8,13 @@ use native.Mathlib.Nat.{eq-or-lt_of_le}
 use native.Mathlib.Omega.{arith}
 use lib.Dec.{eqb}
 use borrow.Author.Tests.{not-true, eqb-true}
+use Rattle.std.proofs.lemmas.Bool.{and_from, and_parts, and_right}
 use Rattle.apportion.proofs.Sums.{order}
 use Rattle.book_words.specs.declared.records.Element.{Element}
 use Rattle.book_words.specs.Book.{elements, element_at, with_shares}
 use Rattle.book_words.specs.Measures.{is_passenger, is_weighed}
 use Rattle.book_words.specs.Mixture.{some_below, is_passenger_in, is_such_passenger, passenger_below, mixes, mixed}
 use Rattle.book_words.specs.Soundness.{all_below, sound}
-use Rattle.book_words.proofs.Booleans.{both, and_both, and-false}
 use Rattle.book_words.proofs.EveryPlace.{every-at}
 use Rattle.book_words.proofs.SoundRecords.{sound-facts}
 
@@ -82,7 +82,7 @@ pub none-mixes : (ws : List ℕ) (category n code kg_per_head : ℕ) → all_bel
     → mixes ws n category code kg_per_head ≡ false
 unfolding mixes passenger_below
 none-mixes ws category n code kg_per_head none =
-    and-false (is_passenger code) _
+    and_right (is_passenger code) _
     (some-none n (λ p. is_such_passenger category (not (is_weighed kg_per_head)) (element_at ws p))
     (λ p h. rw (not-true (is_passenger_in category (element_at ws p)) (every-at n (λ q. not (is_passenger_in category (element_at ws q))) none p h))))
 
@@ -98,10 +98,10 @@ module _ (ws : List ℕ) (fine : sound ws ≡ true) (category : ℕ) where
   unfolding mixes passenger_below
   later-mixes p q later is-p is-q other =
       let r = element_at ws q in
-      let here = both (is_passenger r.code) (eqb r.category category) is-q in
-      let earlier = and_both (is_passenger_in category (element_at ws p)) _ is-p (unlike (weighed_at p) (weighed_at q) other) in
+      let here = and_parts (is_passenger r.code) (eqb r.category category) is-q in
+      let earlier = and_from (is_passenger_in category (element_at ws p)) _ is-p (unlike (weighed_at p) (weighed_at q) other) in
       let below = some-here q (λ k. is_such_passenger category (not (weighed_at q)) (element_at ws k)) p later earlier in
-      and_both (is_passenger r.code) (passenger_below ws q r.category (not (weighed_at q))) here.0
+      and_from (is_passenger r.code) (passenger_below ws q r.category (not (weighed_at q))) here.0
       (ap (λ (c : ℕ). passenger_below ws q c (not (weighed_at q))) (eqb-true r.category category here.1) ∙ below)
 
   later-alike : (p q : ℕ) → p < q → q < elements ws → is_passenger_in category (element_at ws p) ≡ true → is_passenger_in category (element_at ws q) ≡ true
@@ -129,13 +129,13 @@ module _ (ws : List ℕ) (fine : sound ws ≡ true) (category : ℕ) where
     one-tells weighed = go (beq (weighed_at place) weighed) refl
       where
         go : (b : Bool) → beq (weighed_at place) weighed ≡ b → passenger_below ws (elements ws) category weighed ≡ beq (weighed_at place) weighed
-        go true e = rw e (some-here (elements ws) (λ p. is_such_passenger category weighed (element_at ws p)) place h (and_both _ _ is e))
+        go true e = rw e (some-here (elements ws) (λ p. is_such_passenger category weighed (element_at ws p)) place h (and_from _ _ is e))
         go false e = rw e (some-none (elements ws) (λ p. is_such_passenger category weighed (element_at ws p)) (λ q i. other q i (is_passenger_in category (element_at ws q)) refl))
           where
             other : (q : ℕ) → q < elements ws → (b : Bool) → is_passenger_in category (element_at ws q) ≡ b → is_such_passenger category weighed (element_at ws q) ≡ false
             other q i false away = rw away
             other q i true here =
-                and-false (is_passenger_in category (element_at ws q)) _ (ap (λ (w : Bool). beq w weighed) (passengers-alike q place i h here is) ∙ e)
+                and_right (is_passenger_in category (element_at ws q)) _ (ap (λ (w : Bool). beq w weighed) (passengers-alike q place i h here is) ∙ e)
 
     pub one-mixes : (code kg_per_head : ℕ) → is_passenger code ≡ true
         → not (beq (weighed_at place) (is_weighed kg_per_head)) ≡ mixes ws (elements ws) category code kg_per_head

@@ -7,15 +7,15 @@ use native.Mathlib.Nat.{mul-le-mul, eq-zero-or-pos}
 use native.Mathlib.Omega.{arith}
 use lib.Dec.{leb, eqb}
 use borrow.Author.Tests.{leb-true, lt-leb, eqb-true, leb-false, eqb-false}
+use Rattle.std.proofs.lemmas.Bool.{and_parts, and_right}
 use Rattle.book_words.specs.Inner.Steps.{most_exact}
 use Rattle.book_words.specs.Measures.{between, is_code, is_freight, is_passenger, is_amount, is_distance_in, is_hub, activity_of}
-use Rattle.book_words.proofs.Booleans.{both, and-false}
 
 pub between-low : (low high n : ℕ) → between low high n ≡ true → low ≤ n
-between-low low high n e = leb-true low n (both (leb low n) (leb n high) e).0
+between-low low high n e = leb-true low n (and_parts (leb low n) (leb n high) e).0
 
 pub between-high : (low high n : ℕ) → between low high n ≡ true → n ≤ high
-between-high low high n e = leb-true n high (both (leb low n) (leb n high) e).1
+between-high low high n e = leb-true n high (and_parts (leb low n) (leb n high) e).1
 
 -- the place of a number that is there
 pub place_inside : (count most number : ℕ) → count ≤ most → between 1 count number ≡ true → number - 1 < most
@@ -30,7 +30,7 @@ pub between-outside : (low high n : ℕ) → (n < low) ⊎ (high < n) → betwee
 between-outside low high n =
     ⊎_elim
     (λ (l : n < low). rw (lt-leb low n l))
-    (λ (h : high < n). and-false (leb low n) (leb n high) (lt-leb n high h))
+    (λ (h : high < n). and_right (leb low n) (leb n high) (lt-leb n high h))
 
 pub code-most : (code : ℕ) → is_code code ≡ true → code ≤ 1000
 code-most code e = go (is_freight code) refl e
@@ -58,10 +58,10 @@ distance_most kind distance e = go (is_hub kind) e
     go false h = between-high 1 40_000_000 distance h
 
 -- an activity in range is not capped
-pub activity-small : (kind code amount distance : ℕ) → is_code code ≡ true → is_amount code amount ≡ true → is_distance_in kind distance ≡ true
+pub activity_small : (kind code amount distance : ℕ) → is_code code ≡ true → is_amount code amount ≡ true → is_distance_in kind distance ≡ true
     → activity_of kind code amount distance ≤ most_exact
 unfolding activity_of
-activity-small kind code amount distance known fine far = go (is_freight code) refl (is_hub kind)
+activity_small kind code amount distance known fine far = go (is_freight code) refl (is_hub kind)
   where
     go : (t : Bool) → is_freight code ≡ t → (h : Bool) → cond t (cond h amount (amount * distance)) (amount * code * distance) ≤ most_exact
     go true e true = omega (arith, amount-most code amount fine)

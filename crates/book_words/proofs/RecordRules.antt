@@ -8,6 +8,7 @@ use native.Mathlib.Nat.{eq-zero-or-pos}
 use native.Mathlib.Omega.{arith}
 use lib.Dec.{eqb, eqb-suc-zero, leb, leb-suc-zero}
 use borrow.Author.Tests.{not-true, eqb-true, eq-eqb, ne_eqb, le-leb, leb-true}
+use Rattle.std.proofs.lemmas.Bool.{and_parts, cond-false}
 use Rattle.book_words.specs.declared.records.Category.{Category}
 use Rattle.book_words.specs.declared.records.Element.{Element}
 use Rattle.book_words.specs.declared.records.Entry.{Entry}
@@ -20,7 +21,7 @@ use Rattle.book_words.specs.declared.totals.Side.TheVariants.{Operation as opera
 use Rattle.book_words.specs.Totals.{most_emissions, unstruck_of, unstruck, all_unstruck, shares_of}
 use Rattle.book_words.specs.Inner.Steps.{capped}
 use Rattle.apportion.proofs.Sums.{sum-le}
-use Rattle.book_words.proofs.Booleans.{both, cond-false, cond-most}
+use Rattle.book_words.proofs.Booleans.{cond-most}
 use Rattle.book_words.proofs.CappedSums.{capped-equal}
 
 module _ (ws : List ℕ) where
@@ -39,14 +40,14 @@ module _ (ws : List ℕ) where
   -- the category of a record that keeps its rules
   pub entry-inside : (r : Entry) → entry_fine ws r ≡ true → between 1 (categories ws) r.category ≡ true
   unfolding entry_fine
-  entry-inside r e = (both (between 1 (categories ws) r.category) (entry_suits (category_of ws r.category) r) e).0
+  entry-inside r e = (and_parts (between 1 (categories ws) r.category) (entry_suits (category_of ws r.category) r) e).0
 
   pub element-inside : (r : Element) → (r.category ≡ 0 → ⊥) → element_fine ws r ≡ true → r.category ≤ categories ws
   unfolding element_fine
   element-inside r ne e =
       let rules = leb r.category (categories ws) && element_suits (category_of ws r.category) r in
       let mine = sym (cond-false (eqb r.category 0) (quoted_suits r) rules (ne_eqb r.category 0 ne)) ∙ e in
-      leb-true r.category (categories ws) (both (leb r.category (categories ws)) (element_suits (category_of ws r.category) r) mine).0
+      leb-true r.category (categories ws) (and_parts (leb r.category (categories ws)) (element_suits (category_of ws r.category) r) mine).0
 
   -- an element's category is one of the book's, or 0
   pub element-category : (r : Element) → element_fine ws r ≡ true → r.category ≤ categories ws
@@ -70,12 +71,12 @@ module _ (ws : List ℕ) where
       )
 
   -- in a closed category the capped sums are compared
-  pub shares-closed : (place : ℕ) (r : Category) → r ≡ category_at ws place → (r.closed ≡ 0 → ⊥) → Limited ws
+  pub shares_closed : (place : ℕ) (r : Category) → r ≡ category_at ws place → (r.closed ≡ 0 → ⊥) → Limited ws
       → eqb (capped (shares_of ws (place + 1) operation)) (capped (unstruck_of ws (place + 1) operation))
       && eqb (capped (shares_of ws (place + 1) provision)) (capped (unstruck_of ws (place + 1) provision))
       ≡ shares_fine ws place
   unfolding shares_fine
-  shares-closed place r e some h =
+  shares_closed place r e some h =
       rw (
         ap (λ (x : Category). x.closed) (sym e),
         ne_eqb r.closed 0 some,
@@ -131,9 +132,9 @@ most-none (suc n) = rw (leb-suc-zero, eqb-suc-zero)
 abbrev quote_measured : Element → Bool
 quote_measured r = is_mass r.amount && is_distance r.distance && eqb r.kg_per_head 0 && eqb r.activity (r.amount * r.distance)
 
-pub as-freight : (r : Element) → r.code ≡ 0 → measured 1 r ≡ quote_measured r
+pub as_freight : (r : Element) → r.code ≡ 0 → measured 1 r ≡ quote_measured r
 unfolding measured activity_of
-as-freight r code = rw (code, most-none r.kg_per_head)
+as_freight r code = rw (code, most-none r.kg_per_head)
 
 -- the rules of an element of this category, one by one
 pub record Suited (k : Category) (r : Element) : Type 0 where
@@ -149,10 +150,10 @@ suits-parts k r e =
     let chain = is_chain r.chain in
     let code = is_code r.code in
     let suits = not (unsuited k.kind r.code) in
-    let a = both (chain && code && suits && measured k.kind r) (shares_wait k r) e in
-    let b = both (chain && code && suits) (measured k.kind r) a.0 in
-    let c = both (chain && code) suits b.0 in
-    let d = both chain code c.0 in
+    let a = and_parts (chain && code && suits && measured k.kind r) (shares_wait k r) e in
+    let b = and_parts (chain && code && suits) (measured k.kind r) a.0 in
+    let c = and_parts (chain && code) suits b.0 in
+    let d = and_parts chain code c.0 in
     record {
       known_chain = d.0;
       known_code = d.1;
@@ -172,10 +173,10 @@ unfolding quoted_suits
 quoted-parts r e =
     let known = is_chain r.chain && eqb r.code 0 in
     let far = known && is_mass r.amount && is_distance r.distance in
-    let a = both (far && eqb r.kg_per_head 0) (eqb r.activity (r.amount * r.distance)) e in
-    let f = both far (eqb r.kg_per_head 0) a.0 in
-    let b = both (known && is_mass r.amount) (is_distance r.distance) f.0 in
-    let c = both known (is_mass r.amount) b.0 in
-    let d = both (is_chain r.chain) (eqb r.code 0) c.0 in
+    let a = and_parts (far && eqb r.kg_per_head 0) (eqb r.activity (r.amount * r.distance)) e in
+    let f = and_parts far (eqb r.kg_per_head 0) a.0 in
+    let b = and_parts (known && is_mass r.amount) (is_distance r.distance) f.0 in
+    let c = and_parts known (is_mass r.amount) b.0 in
+    let d = and_parts (is_chain r.chain) (eqb r.code 0) c.0 in
     let ambient = eqb-true r.code 0 d.1 in
-    record { known_chain = d.0; ambient = ambient; well_measured = as-freight r ambient ∙ rw (c.1, b.1, f.1, a.1) }
+    record { known_chain = d.0; ambient = ambient; well_measured = as_freight r ambient ∙ rw (c.1, b.1, f.1, a.1) }

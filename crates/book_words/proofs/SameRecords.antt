@@ -1,24 +1,15 @@
 -- What is the same, and the sums over a list that is the same in two books. Assumes nothing.
 use mathlib.Core.Bool.{cond}
 use mathlib.Core.List.{List}
-use mathlib.Core.Logic.{◌⊎◌, ⊎_elim, inr, inl}
 use mathlib.Core.Path.{◌≡◌, ap}
 use Prim.Native.Nat.{ℕ, ◌<◌}
-use native.Mathlib.Omega.{arith}
 use lib.Dec.{eqb}
 use Rattle.apportion.specs.Places.{sum_below}
 use Rattle.book_words.specs.Book.{entries, entry_at, elements, element_at}
 use Rattle.book_words.specs.Measures.{standard_activity}
 use Rattle.book_words.specs.declared.totals.Side.{Side}
 use Rattle.book_words.specs.Totals.{all_unstruck, unstruck_of, unstruck, shares_of, activities, share_of}
-use Rattle.apportion.proofs.Sums.{order, sum-cong}
-
-pub same_or_not : (a b : ℕ) → (a ≡ b) ⊎ (a ≡ b → ⊥)
-same_or_not a b =
-    ⊎_elim
-    (λ (l : a < b). inr (λ e. omega arith))
-    (λ (m : (a ≡ b) ⊎ (b < a)). ⊎_elim (λ (e : a ≡ b). inl e) (λ (l : b < a). inr (λ e. omega arith)) m)
-    (order a b)
+use Rattle.apportion.proofs.Sums.{sum-cong}
 
 -- a sum over records that are the same in two lists
 sum_kept : {A : Type 0} (n n' : ℕ) (r r' : ℕ → A) (f : A → ℕ) → n' ≡ n → ((p : ℕ) → p < n → r' p ≡ r p)

@@ -8,6 +8,7 @@ use native.Mathlib.Nat.{add-zero, eq-zero-or-pos}
 use native.Mathlib.Omega.{arith}
 use lib.Dec.{eqb}
 use borrow.Author.Tests.{eqb-true, eqb-false, not-true, not-false}
+use Rattle.std.proofs.lemmas.Bool.{and_parts}
 use Rattle.apportion.specs.Places.{sum_below}
 use Rattle.book_words.specs.Book.{categories, category_at, category_of, entries, entry_at, elements, element_at, is_closed}
 use Rattle.book_words.specs.Measures.{is_chain, most_chains}
@@ -17,7 +18,7 @@ use Rattle.book_words.specs.declared.totals.Side.TheVariants.{Operation as opera
 use Rattle.book_words.specs.Totals.{most_emissions, share_of, unstruck, shares_of, unstruck_of, all_unstruck}
 use Rattle.book_words.specs.declared.records.Element.{Element}
 use Rattle.apportion.proofs.Sums.{sum-cong, sum-le, sum-zero}
-use Rattle.book_words.proofs.Booleans.{both, cond-cong, cond_same, cond-most}
+use Rattle.book_words.proofs.Booleans.{cond-cong, cond_same, cond-most}
 use Rattle.book_words.proofs.Ranges.{between-low, between-high}
 use Rattle.book_words.proofs.RecordRules.{entry-inside, element-quoted, element-numbered, suits-parts, quoted-parts, element-category}
 use Rattle.book_words.proofs.SoundRecords.{SoundFacts, sound-facts}
@@ -25,8 +26,8 @@ use Rattle.book_words.proofs.SumsByKey.{sum_first, sum-by-key}
 
 -- shares that wait are 0
 waiting_none : (t : Bool) (r : Element) → t ≡ true → cond t (eqb r.operation 0 && eqb r.provision 0) true ≡ true → (side : Side) → share_of side r ≡ 0
-waiting_none t r is e operation = eqb-true r.operation 0 (both (eqb r.operation 0) (eqb r.provision 0) (rw is at e)).0
-waiting_none t r is e provision = eqb-true r.provision 0 (both (eqb r.operation 0) (eqb r.provision 0) (rw is at e)).1
+waiting_none t r is e operation = eqb-true r.operation 0 (and_parts (eqb r.operation 0) (eqb r.provision 0) (rw is at e)).0
+waiting_none t r is e provision = eqb-true r.provision 0 (and_parts (eqb r.operation 0) (eqb r.provision 0) (rw is at e)).1
 
 -- what is 0 where the number is met adds nothing
 met-none : (category number n : ℕ) → (category ≡ number → n ≡ 0) → cond (eqb category number) n 0 ≡ 0

@@ -9,6 +9,7 @@ use native.Mathlib.Omega.{arith}
 use lib.Dec.{eqb}
 use lib.ListN.{length}
 use borrow.Author.Tests.{not-true, ne_eqb, eqb-true, eq-eqb, le-leb}
+use Rattle.std.proofs.lemmas.Bool.{and_parts}
 use Rattle.apportion.specs.Places.{at}
 use Rattle.book_words.specs.Book.{book_length, mark, categories, most_categories, category_at}
 use Rattle.book_words.specs.Book.{entries, most_entries, entry_at, elements, most_elements, element_at}
@@ -19,7 +20,6 @@ use Rattle.book_words.specs.Soundness.{sound, header_fine, categories_fine, entr
 use Rattle.book_words.specs.declared.totals.Side.{Side}
 use Rattle.book_words.specs.declared.totals.Side.TheVariants.{Operation as operation, Provision as provision}
 use Rattle.book_words.specs.Totals.{most_emissions, shares_of, unstruck_of, activities, most_activity, emitted, sums_of}
-use Rattle.book_words.proofs.Booleans.{both}
 use Rattle.book_words.proofs.CappedSums.{within-parts}
 use Rattle.book_words.proofs.EveryPlace.{every-at, every}
 use Rattle.book_words.proofs.SoundTests.{sound-parts, header-counted, header-marked, sums-limits, limits-limited}
@@ -48,7 +48,7 @@ module _ (ws : List ℕ) where
       → (sums-equal p operation ≡ true) × (sums-equal p provision ≡ true)
   unfolding shares_fine
   closed_parts p e some =
-      both (sums-equal p operation) (sums-equal p provision) (rw (ne_eqb (category_at ws p).closed 0 some) at e)
+      and_parts (sums-equal p operation) (sums-equal p provision) (rw (ne_eqb (category_at ws p).closed 0 some) at e)
 
   shares-balanced : (p : ℕ) → shares_fine ws p ≡ true → Balanced p
   shares-balanced p e some operation = eqb-true _ _ (closed_parts p e some).0

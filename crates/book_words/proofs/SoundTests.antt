@@ -1,21 +1,23 @@
 -- What a sound book has. Assumes nothing.
-use mathlib.Core.Bool.{Bool, true, ◌&&◌}
+use mathlib.Core.Bool.{Bool, true, false, true≢false, cond, ◌&&◌}
 use mathlib.Core.List.{List}
-use mathlib.Core.Path.{◌≡◌, refl, ◌∙◌}
+use mathlib.Core.Path.{◌≡◌, refl, sym, ◌∙◌}
 use Prim.Native.Nat.{ℕ, zero, suc}
 use native.Mathlib.Omega.{arith}
 use lib.Dec.{leb, eqb}
 use lib.ListN.{length, get_or}
 use borrow.Author.Tests.{leb-true, eqb-true}
+use Rattle.std.proofs.lemmas.Bool.{and_parts}
+use Rattle.std.proofs.Common.{Some, None}
 use Rattle.apportion.specs.Places.{at}
 use Rattle.book_words.specs.Book.{mark, book_length, categories, most_categories, entries, most_entries, elements, most_elements}
 use Rattle.book_words.specs.Inner.Steps.{CountsWithin, Limited, ReadyFor, list_fine}
 use Rattle.book_words.specs.Soundness.{header_fine, sums_fine, categories_fine, entries_fine, elements_fine, passengers_fine, closings_fine, sound, all_below}
 use Rattle.book_words.specs.declared.soundness.TheConstants.{LISTS}
-use Rattle.book_words.specs.declared.soundness.List.TheVariants.{Header}
+use Rattle.book_words.specs.declared.soundness.List.TheVariants.{Categories}
 use Rattle.book_words.specs.declared.totals.Side.TheVariants.{Operation as operation, Provision as provision}
 use Rattle.book_words.specs.Totals.{sums_of, within_limits}
-use Rattle.book_words.proofs.Booleans.{both}
+use Rattle.book_words.proofs.Booleans.{chosen-some, chosen-none}
 use Rattle.book_words.proofs.CappedSums.{within-parts}
 use Rattle.book_words.proofs.EveryPlace.{every-at}
 
@@ -28,10 +30,10 @@ module _ (ws : List ℕ) where
       let one = leb (categories ws) most_categories in
       let two = leb (entries ws) most_entries in
       let three = leb (elements ws) most_elements in
-      let a = both (long && marked && one && two) three e in
-      let b = both (long && marked && one) two a.0 in
-      let d = both (long && marked) one b.0 in
-      let f = both long marked d.0 in (
+      let a = and_parts (long && marked && one && two) three e in
+      let b = and_parts (long && marked && one) two a.0 in
+      let d = and_parts (long && marked) one b.0 in
+      let f = and_parts long marked d.0 in (
         record {
           long = leb-true book_length (length ws) f.0;
           categories_most = leb-true (categories ws) most_categories d.1;
@@ -58,12 +60,17 @@ module _ (ws : List ℕ) where
 
   -- the list at this place of the test
   abbrev pub turn_fine : ℕ → Bool
-  turn_fine k = list_fine ws (get_or LISTS k Header)
+  turn_fine k = list_fine ws (get_or LISTS k Categories)
 
-  -- the lists in their order are the test
-  pub lists-sound : all_below 7 turn_fine ≡ sound ws
+  -- behind a header that is fine the lists in their order are the test
+  pub lists-sound : header_fine ws ≡ true → all_below 6 turn_fine ≡ sound ws
   unfolding list_fine sound categories_fine entries_fine elements_fine closings_fine
-  lists-sound = refl
+  lists-sound header = rw header
+
+  -- a header that is not decides
+  header-sound : header_fine ws ≡ false → false ≡ sound ws
+  unfolding sound
+  header-sound header = rw header
 
   -- the parts of the test
   pub record Parts : Type 0 where
@@ -77,17 +84,21 @@ module _ (ws : List ℕ) where
 
   pub sound-parts : sound ws ≡ true → Parts
   unfolding list_fine categories_fine entries_fine elements_fine closings_fine
-  sound-parts e =
-      let part = every-at 7 turn_fine (lists-sound ∙ e) in
-      record {
-        header = part 0 (omega arith);
-        all-categories = part 1 (omega arith);
-        all-entries = part 2 (omega arith);
-        all-elements = part 3 (omega arith);
-        passengers = part 4 (omega arith);
-        sums = part 5 (omega arith);
-        closings = part 6 (omega arith);
-      }
+  sound-parts e = go (header_fine ws) refl
+    where
+      go : (t : Bool) → header_fine ws ≡ t → Parts
+      go false header = absurd (true≢false (sym e ∙ sym (header-sound header)))
+      go true header =
+          let part = every-at 6 turn_fine (lists-sound header ∙ e) in
+          record {
+            header = header;
+            all-categories = part 0 (omega arith);
+            all-entries = part 1 (omega arith);
+            all-elements = part 2 (omega arith);
+            passengers = part 3 (omega arith);
+            sums = part 4 (omega arith);
+            closings = part 5 (omega arith);
+          }
 
   pub sound-counted : sound ws ≡ true → CountsWithin ws
   sound-counted e = header-counted (sound-parts e).header
@@ -96,17 +107,19 @@ module _ (ws : List ℕ) where
   sound-sums e = sums-limits (sound-parts e).sums
 
   -- the lists before one give what its rules take for granted
-  pub ready : (k : ℕ) → all_below k turn_fine ≡ true → ReadyFor (get_or LISTS k Header) ws
+  pub ready : (k : ℕ) → all_below k turn_fine ≡ true → ReadyFor (get_or LISTS k Categories) ws
   unfolding list_fine elements_fine
   ready zero before = tt
-  ready (suc k) before = go k (header-counted (every-at (suc k) turn_fine before 0 (omega arith))) before
-    where
-      go : (k : ℕ) → CountsWithin ws → all_below (suc k) turn_fine ≡ true → ReadyFor (get_or LISTS (suc k) Header) ws
-      go zero counts before = counts
-      go (suc zero) counts before = counts
-      go (suc (suc zero)) counts before = counts
-      go (suc (suc (suc zero))) counts before = (counts, every-at 4 turn_fine before 3 (omega arith))
-      go (suc (suc (suc (suc zero)))) counts before = counts
-      go (suc (suc (suc (suc (suc zero))))) counts before =
-          (counts, limits-limited (sums-limits (every-at 6 turn_fine before 5 (omega arith))))
-      go (suc (suc (suc (suc (suc (suc k)))))) counts before = tt
+  ready (suc zero) before = tt
+  ready (suc (suc zero)) before = tt
+  ready (suc (suc (suc zero))) before = every-at 3 turn_fine before 2 (omega arith)
+  ready (suc (suc (suc (suc zero)))) before = tt
+  ready (suc (suc (suc (suc (suc zero))))) before = limits-limited (sums-limits (every-at 5 turn_fine before 4 (omega arith)))
+  ready (suc (suc (suc (suc (suc (suc k)))))) before = tt
+
+-- what the test of the header tells: the words that it lets through are those of the book, and where it lets none through it decides
+pub tested-sound : (ws : List ℕ) {words : List ℕ} → cond (header_fine ws) (Some ws) None ≡ Some words → all_below 6 (turn_fine words) ≡ sound ws
+tested-sound ws is = let some = chosen-some (header_fine ws) is in rw some.1 (lists-sound ws some.0)
+
+pub untested-sound : (ws : List ℕ) → cond (header_fine ws) (Some ws) None ≡ None → false ≡ sound ws
+untested-sound ws is = header-sound ws (chosen-none (header_fine ws) ws is)

@@ -1,6 +1,6 @@
-// Codes, ranges and activities.
+// Codes, ranges and activities: rules of the papers, each by the name of its definition, and no conversions.
 ghost use Rattle.std.specs.Prelude.{◌≡◌};
-ghost use Rattle.book_words.specs.Measures.{is_kind, is_chain, is_code, is_passenger, unsuited, unsuited_group, is_mass, is_heads, is_amount, is_distance, is_distance_in, is_weighed, is_kg_per_head, mass_per_head, activity_of};
+ghost use Rattle.book_words.specs.Measures.{is_kind, is_hub, is_group, is_chain, is_code, is_freight, is_passenger, unsuited, unsuited_group, is_mass, is_heads, is_amount, is_distance, is_distance_in, is_weighed, is_kg_per_head, mass_per_head, activity_of};
 ghost use Rattle.book_words.specs.Inner.Steps.{capped};
 
 use crate::totals;
@@ -26,7 +26,26 @@ pub fn is_chain(chain: u64) -> bool
 pub fn is_code(code: u64) -> bool
     ensures { result ≡ is_code code }
 {
-    code <= 2 || is_passenger(code)
+    is_freight(code) || is_passenger(code)
+}
+
+pub fn is_hub(kind: u64) -> bool
+    ensures { result ≡ is_hub kind }
+{
+    kind == 4
+}
+
+pub fn is_group(group: u64) -> bool
+    ensures { result ≡ is_group group }
+{
+    group <= 2
+}
+
+// Ambient, chilled or frozen.
+pub fn is_freight(code: u64) -> bool
+    ensures { result ≡ is_freight code }
+{
+    code <= 2
 }
 
 // A passenger class.
@@ -40,7 +59,7 @@ pub fn is_passenger(code: u64) -> bool
 pub fn unsuited(kind: u64, code: u64) -> bool
     ensures { result ≡ unsuited kind code }
 {
-    (code <= 2 && kind == 2) || (is_passenger(code) && (kind == 1 || kind == 4))
+    (is_freight(code) && kind == 2) || (is_passenger(code) && (kind == 1 || is_hub(kind)))
 }
 
 // Group 1 or 2 in kind 2.
@@ -66,7 +85,7 @@ fn is_heads(heads: u64) -> bool
 pub fn is_amount(code: u64, amount: u64) -> bool
     ensures { result ≡ is_amount code amount }
 {
-    if code <= 2 {
+    if is_freight(code) {
         is_mass(amount)
     } else {
         is_heads(amount)
@@ -83,7 +102,7 @@ pub fn is_distance(distance: u64) -> bool
 pub fn is_distance_in(kind: u64, distance: u64) -> bool
     ensures { result ≡ is_distance_in kind distance }
 {
-    if kind == 4 {
+    if is_hub(kind) {
         distance == 0
     } else {
         is_distance(distance)
@@ -94,7 +113,7 @@ pub fn is_distance_in(kind: u64, distance: u64) -> bool
 pub fn is_kg_per_head(code: u64, kg_per_head: u64) -> bool
     ensures { result ≡ is_kg_per_head code kg_per_head }
 {
-    let most = if code <= 2 { 0 } else { 300 };
+    let most = if is_freight(code) { 0 } else { 300 };
     kg_per_head <= most
 }
 
@@ -121,10 +140,10 @@ pub fn mass_per_head(kg_per_head: u64) -> u64
 pub fn activity(kind: u64, code: u64, amount: u64, distance: u64) -> u64
     ensures { result ≡ capped (activity_of kind code amount distance) }
 {
-    if code > 2 {
+    if !is_freight(code) {
         return totals::multiply(totals::multiply(amount, code), distance);
     }
-    if kind == 4 {
+    if is_hub(kind) {
         return totals::capped(amount);
     }
     totals::multiply(amount, distance)

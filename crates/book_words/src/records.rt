@@ -1,7 +1,7 @@
 // The layout of a book, and its records, each read from its words and written as them.
-ghost use Rattle.std.specs.Prelude.{◌≡◌, ◌≤◌, ◌<◌, ◌+◌, ◌*◌, ℕ, List, length};
+ghost use Rattle.std.specs.Prelude.{◌≡◌, ◌≤◌, ◌<◌, ◌+◌, ◌-◌, ℕ, List, length, set, not, eqb};
 ghost use Rattle.std.proofs.Common.{rules, refl};
-ghost use Rattle.book_words.specs.Book.{book_length, count_of, start_of, category_list, most_categories, category_at, category_words};
+ghost use Rattle.book_words.specs.Book.{book_length, count_of, start_of, category_list, most_categories, category_at, category_words, has_closed};
 ghost use Rattle.book_words.specs.Book.{entry_list, most_entries, entry_at, entry_words, element_list, most_elements, element_at, element_words};
 ghost use Rattle.book_words.specs.Inner.Steps.{CountsWithin};
 ghost use Rattle.book_words.specs.declared.records.Layout.{Layout};
@@ -41,7 +41,8 @@ pub const OPERATION_SHARE_WORD: usize = 6;
 
 pub const PROVISION_SHARE_WORD: usize = 7;
 
-// Kinds, groups, codes and marks are numbers and no enums: the words of a book may be any, and the test of soundness judges them.
+// Kinds, groups, codes and marks are numbers and no enums: the words of a book may be any, and the test of soundness judges them. Behind
+// it marks, freight and hubs are asked by their words, as `has_closed` and `is_freight`.
 #[derive(Clone, Copy)]
 pub struct Category {
     // 1 freight, 2 passengers, 3 both, 4 freight hub.
@@ -74,6 +75,22 @@ pub struct Element {
     pub kg_per_head: u64,
 }
 
+impl Category {
+    pub fn has_closed(self) -> bool
+        ensures { result ≡ has_closed self }
+    {
+        self.closed != 0
+    }
+}
+
+impl Entry {
+    pub fn is_struck(self) -> bool
+        ensures { result ≡ not (eqb self.struck 0) }
+    {
+        self.struck != 0
+    }
+}
+
 // A record of one of the lists.
 pub trait Record: Copy {
     ghost LIST: { Layout };
@@ -89,9 +106,9 @@ pub trait Record: Copy {
 
     const MOST: u64;
 
-    // The record at this place.
+    // The record at this place: its layout, field by field.
     fn read(book: &[u64], place: usize) -> Self
-        requires { (book_length ≤ length book.now) × (place < MOST) }
+        requires { start_of LIST place + LIST.width ≤ length book.now }
         ensures { result ≡ record_at book.now place };
 
     // Writes the words of the record.
@@ -239,4 +256,16 @@ impl Record for Element {
     ghost inside = { Prim.search rules };
 
     ghost width = { λ r. refl };
+}
+
+// Sets a word of the record of this number; the word is counted from the record's start.
+pub fn set_word<R: Record>(book: &mut [u64], number: u64, word: usize, value: u64)
+    requires long { book_length ≤ length book.old }
+    requires number { (1 ≤ number) × (number ≤ R.MOST) }
+    requires word { word < R.LIST.width }
+    ensures { book.new ≡ set book.old (start_of R.LIST (number - 1) + word) value }
+{
+    let list = R::LIST;
+    let place = number as usize - 1;
+    book[list.first + list.width * place + word] = value;
 }

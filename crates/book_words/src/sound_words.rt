@@ -1,4 +1,5 @@
-// The words of a book that is known to be sound and is only read: the fact is in the type, and no contract asks it.
+// The words of a book that is known to be sound and is only read: the fact is in the type, and no contract asks it. A `Model` and no ghost
+// field, so that a reader's clauses say `book.now` and not `book.now.words.now`.
 ghost use Rattle.std.specs.Prelude.{true, ◌≡◌, ◌<◌, cond, Ok, Err};
 ghost use Rattle.apportion.specs.declared.refusing.Refusal.TheVariants.{Unfit};
 ghost use Rattle.book_words.specs.Book.{count_of, elements};
@@ -7,6 +8,7 @@ ghost use Rattle.book_words.specs.Mixture.{mixes};
 ghost use Rattle.book_words.specs.Soundness.{sound};
 ghost use Rattle.book_words.specs.Totals.{sums_of};
 
+use crate::counted_words::CountedWords;
 use crate::records::{Element, Record};
 use crate::soundness::is_sound;
 use crate::totals::Sums;
@@ -16,7 +18,7 @@ use std::marker::Model;
 
 #[derive(Drop)]
 pub struct SoundWords<'a> {
-    words: &'a [u64],
+    words: CountedWords<'a>,
 }
 
 impl<'a> Model for SoundWords<'a> {
@@ -26,9 +28,9 @@ impl<'a> Model for SoundWords<'a> {
 
     ghost Value = { List ℕ };
 
-    ghost view = { λ s. s.words.now };
+    ghost view = { λ s. s.words };
 
-    ghost invariant = { λ s. sound s.words.now ≡ true };
+    ghost invariant = { λ s. sound s.words ≡ true };
 }
 
 impl<'a> SoundWords<'a> {
@@ -37,7 +39,9 @@ impl<'a> SoundWords<'a> {
         requires { sound words.now ≡ true }
         ensures { result ≡ words.now }
     {
-        SoundWords { words }
+        SoundWords {
+            words: CountedWords::of(words),
+        }
     }
 
     // Those of any book, if it is sound.
@@ -56,7 +60,7 @@ impl<'a> SoundWords<'a> {
         ensures value { result ≡ count_of self.now R.LIST }
         ensures book { sound self.now ≡ true }
     {
-        self.words[R::LIST.counter]
+        self.words.count::<R>()
     }
 
     // The record of this number.
@@ -64,11 +68,7 @@ impl<'a> SoundWords<'a> {
         ensures value { result ≡ numbered (count_of self.now R.LIST) (R.record_at self.now) number }
         ensures book { sound self.now ≡ true }
     {
-        if (1..=self.count::<R>()).contains(&number) {
-            Some(self.record_at(number as usize - 1))
-        } else {
-            None
-        }
+        self.words.numbered(number)
     }
 
     // The record at a place that is counted.
@@ -77,7 +77,7 @@ impl<'a> SoundWords<'a> {
         ensures value { result ≡ R.record_at self.now place }
         ensures book { sound self.now ≡ true }
     {
-        R::read(self.words, place)
+        self.words.record_at(place)
     }
 
     // The sums of ground 10.
@@ -85,7 +85,7 @@ impl<'a> SoundWords<'a> {
         ensures { result ≡ sums_of self.now }
     {
         // The sums of a sound book are not capped.
-        totals::capped_sums(self.words)
+        totals::capped_sums(&self.words)
     }
 
     // An element of this category, code and kg per head would come behind passengers of its category that are

@@ -1,22 +1,22 @@
 // The test of soundness, ground 1: it looks through every record of every list and stops at the first
 // that breaks a rule.
 ghost use Rattle.std.specs.Prelude.{true, ◌≡◌, ◌<◌};
-ghost use Rattle.book_words.specs.Book.{most_entries, entry_at, most_elements, element_at, most_categories};
+ghost use Rattle.book_words.specs.Book.{categories};
 ghost use Rattle.book_words.specs.Measures.{is_code};
-ghost use Rattle.book_words.specs.Inner.Steps.{CountsWithin, Limited, ReadyFor, count_in, record_fine};
-ghost use Rattle.book_words.specs.Soundness.{sound, header_fine, category_fine, entry_fine, entry_suits, sums_fine, shares_fine};
+ghost use Rattle.book_words.specs.Inner.Steps.{Limited, ReadyFor, count_in, record_fine};
+ghost use Rattle.book_words.specs.Soundness.{sound, category_fine, entry_fine, entry_suits, sums_fine, shares_fine};
 ghost use Rattle.book_words.specs.Soundness.{element_fine, quoted_suits, element_suits, measured, shares_wait};
 
-use crate::records::{Category, Element, Entry, Record};
-use crate::{measures, mixture, records, totals};
+use crate::counted_words::CountedWords;
+use crate::records::{Category, Element, Entry};
+use crate::{measures, mixture, totals};
 
 // The largest amount of an entry, 10^18 µg.
 const MOST_AMOUNT: u64 = 1_000_000_000_000_000_000;
 
-// The lists that the test looks through. The header, the passengers and the sums are one record each.
+// The lists that the test looks through behind the header. The passengers and the sums are one record each.
 #[derive(Clone, Copy)]
 enum List {
-    Header,
     Categories,
     Entries,
     Elements,
@@ -26,8 +26,7 @@ enum List {
 }
 
 // In the order of the test: the rules of a list take those before it for granted.
-const LISTS: [List; 7] = [
-    List::Header,
+const LISTS: [List; 6] = [
     List::Categories,
     List::Entries,
     List::Elements,
@@ -36,15 +35,19 @@ const LISTS: [List; 7] = [
     List::Closings,
 ];
 
-// The book is sound: the first bad record decides, and the label is left with it, with a flag, as document 01 wants it here.
+// The book is sound: behind the header the first bad record decides, and the label is left with it, with a flag, as document 01 wants it
+// here.
 pub fn is_sound(book: &[u64]) -> bool
     ensures { result ≡ sound book.now }
 {
+    let Some(words) = CountedWords::tested(book) else {
+        return false;
+    };
     let mut good = true;
     'lists: for list in LISTS {
-        let count = count_in(book, list);
+        let count = count_in(&words, list);
         for place in 0..count {
-            if !record_fine(book, list, place) {
+            if !record_fine(&words, list, place) {
                 good = false;
                 break 'lists;
             }
@@ -53,54 +56,39 @@ pub fn is_sound(book: &[u64]) -> bool
     good
 }
 
-// The length, word 0 and the counts.
-#[tactic(auto, unfolding(crate::specs::Soundness::header_fine))]
-fn header_fine(book: &[u64]) -> bool
-    ensures { result ≡ header_fine book.now }
-{
-    records::BOOK_LENGTH <= book.len()
-        && book[0] == records::MARK
-        && book[records::CATEGORIES] <= Category::MOST
-        && book[records::ENTRIES] <= Entry::MOST
-        && book[records::ELEMENTS] <= Element::MOST
-}
-
 // The sums are within the limits of refusal 10.
 #[tactic(auto, unfolding(crate::specs::Soundness::sums_fine))]
-fn sums_fine(book: &[u64]) -> bool
-    requires { CountsWithin book.now }
-    ensures { result ≡ sums_fine book.now }
+fn sums_fine(words: &CountedWords) -> bool
+    ensures { result ≡ sums_fine words.now }
 {
-    totals::are_within(totals::capped_sums(book))
+    totals::are_within(totals::capped_sums(words))
 }
 
-// How many records a list has.
-fn count_in(book: &[u64], list: List) -> usize
-    requires { ReadyFor list book.now }
-    ensures { result ≡ count_in book.now list }
+// How many records a list has. Here and in `record_fine` a match: each list has another record and another test.
+fn count_in(words: &CountedWords, list: List) -> usize
+    ensures { result ≡ count_in words.now list }
 {
     match list {
-        List::Header | List::Passengers | List::Sums => 1,
-        List::Categories | List::Closings => book[records::CATEGORIES] as usize,
-        List::Entries => book[records::ENTRIES] as usize,
-        List::Elements => book[records::ELEMENTS] as usize,
+        List::Passengers | List::Sums => 1,
+        List::Categories | List::Closings => words.count::<Category>() as usize,
+        List::Entries => words.count::<Entry>() as usize,
+        List::Elements => words.count::<Element>() as usize,
     }
 }
 
 // The record at this place of a list keeps its rules.
-fn record_fine(book: &[u64], list: List, place: usize) -> bool
-    requires ready { ReadyFor list book.now }
-    requires place_bound { place < count_in book.now list }
-    ensures { result ≡ record_fine book.now list place }
+fn record_fine(words: &CountedWords, list: List, place: usize) -> bool
+    requires ready { ReadyFor list words.now }
+    requires place_bound { place < count_in words.now list }
+    ensures { result ≡ record_fine words.now list place }
 {
     match list {
-        List::Header => header_fine(book),
-        List::Categories => category_fine(Category::read(book, place)),
-        List::Entries => entry_fine(book, place),
-        List::Elements => element_fine(book, place),
-        List::Passengers => mixture::passengers_fine(book),
-        List::Sums => sums_fine(book),
-        List::Closings => shares_fine(book, place),
+        List::Categories => category_fine(words.record_at(place)),
+        List::Entries => entry_fine(words, words.record_at(place)),
+        List::Elements => element_fine(words, words.record_at(place)),
+        List::Passengers => mixture::passengers_fine(words),
+        List::Sums => sums_fine(words),
+        List::Closings => shares_fine(words, place),
     }
 }
 
@@ -112,21 +100,19 @@ fn category_fine(r: Category) -> bool
 }
 
 #[tactic(auto, unfolding(crate::specs::Soundness::entry_fine))]
-fn entry_fine(book: &[u64], place: usize) -> bool
-    requires counts_within { CountsWithin book.now }
-    requires place_lt_most_entries { place < most_entries }
-    ensures { result ≡ entry_fine book.now (entry_at book.now place) }
+fn entry_fine(words: &CountedWords, r: Entry) -> bool
+    ensures { result ≡ entry_fine words.now r }
 {
-    let r = Entry::read(book, place);
-    (1..=book[records::CATEGORIES]).contains(&r.category)
-        && entry_suits(Category::read(book, r.category as usize - 1), r)
+    words
+        .numbered(r.category)
+        .is_some_and(|category| entry_suits(category, r))
 }
 
 #[tactic(auto, unfolding(crate::specs::Soundness::entry_suits))]
 fn entry_suits(category: Category, r: Entry) -> bool
     ensures { result ≡ entry_suits category r }
 {
-    r.group <= 2
+    measures::is_group(r.group)
         && !measures::unsuited_group(category.kind, r.group)
         && r.operation <= MOST_AMOUNT
         && r.provision <= MOST_AMOUNT
@@ -134,20 +120,18 @@ fn entry_suits(category: Category, r: Entry) -> bool
 }
 
 #[tactic(auto, unfolding(crate::specs::Soundness::element_fine))]
-fn element_fine(book: &[u64], place: usize) -> bool
-    requires counts_within { CountsWithin book.now }
-    requires place_lt_most_elements { place < most_elements }
-    ensures { result ≡ element_fine book.now (element_at book.now place) }
+fn element_fine(words: &CountedWords, r: Element) -> bool
+    ensures { result ≡ element_fine words.now r }
 {
-    let r = Element::read(book, place);
     if r.category == 0 {
         return quoted_suits(r);
     }
-    r.category <= book[records::CATEGORIES]
-        && element_suits(Category::read(book, r.category as usize - 1), r)
+    words
+        .numbered(r.category)
+        .is_some_and(|category| element_suits(category, r))
 }
 
-#[tactic(auto, unfolding(crate::specs::Soundness::quoted_suits))]
+#[tactic(auto, unfolding(crate::specs::Soundness::quoted_suits), using(crate::proofs::RecordRules::as_freight))]
 fn quoted_suits(r: Element) -> bool
     ensures { result ≡ quoted_suits r }
 {
@@ -167,7 +151,7 @@ fn element_suits(category: Category, r: Element) -> bool
 }
 
 // The amount, the distance and the kg per head are in range, and the activity is right.
-#[tactic(auto, unfolding(crate::specs::Soundness::measured))]
+#[tactic(auto, unfolding(crate::specs::Soundness::measured), using(crate::proofs::Ranges::activity_small, crate::proofs::CappedSums::capped_small))]
 fn measured(kind: u64, r: Element) -> bool
     requires { is_code r.code ≡ true }
     ensures { result ≡ measured kind r }
@@ -182,21 +166,21 @@ fn measured(kind: u64, r: Element) -> bool
 fn shares_wait(category: Category, r: Element) -> bool
     ensures { result ≡ shares_wait category r }
 {
-    category.closed != 0 || (r.operation == 0 && r.provision == 0)
+    category.has_closed() || (r.operation == 0 && r.provision == 0)
 }
 
 // In a closed category the shares sum to the unstruck entries.
 #[tactic(auto, unfolding(crate::specs::Soundness::shares_fine))]
-fn shares_fine(book: &[u64], place: usize) -> bool
-    requires counts_within { CountsWithin book.now }
-    requires limited { Limited book.now }
-    requires place_lt_most_categories { place < most_categories }
-    ensures { result ≡ shares_fine book.now place }
+fn shares_fine(words: &CountedWords, place: usize) -> bool
+    requires limited { Limited words.now }
+    requires place_bound { place < categories words.now }
+    ensures { result ≡ shares_fine words.now place }
 {
-    let r = Category::read(book, place);
-    if r.closed == 0 {
+    let r: Category = words.record_at(place);
+    if !r.has_closed() {
         return true;
     }
     let number = place as u64 + 1;
-    totals::capped_shares_of(book, number) == totals::capped_unstruck_of(book, number)
+    totals::capped_amounts_of::<Element>(words, number)
+        == totals::capped_amounts_of::<Entry>(words, number)
 }

@@ -1,15 +1,15 @@
 // The sums of ground 10 and of soundness. A sum stops at 10^18 + 1, where it has passed every limit.
-ghost use Rattle.std.specs.Prelude.{cond, ◌≡◌, ◌+◌, ◌*◌, eqb};
-ghost use Rattle.book_words.specs.Book.{entries};
+ghost use Rattle.std.specs.Prelude.{cond, ◌≡◌, ◌+◌, ◌*◌, ℕ, eqb};
+ghost use Rattle.std.specs.List.{fold, range_with_len};
+ghost use Rattle.apportion.specs.Places.{sum_below};
+ghost use Rattle.book_words.specs.Book.{count_of};
 ghost use Rattle.book_words.specs.Measures.{standard_activity};
-ghost use Rattle.book_words.specs.Inner.Steps.{by_sides, side_of, sums_below, CountsWithin};
-ghost use Rattle.book_words.specs.Totals.{unstruck, unstruck_of, share_of, shares_of};
-ghost use Rattle.book_words.specs.Inner.Steps.{capped};
-ghost use Rattle.book_words.specs.Totals.{sums_of, with_entry, with_element, within_limits};
-ghost use Rattle.book_words.specs.Inner.Steps.{cap_sums};
+ghost use Rattle.book_words.specs.Inner.Steps.{by_sides, side_of, capped, cap_sums};
+ghost use Rattle.book_words.specs.Totals.{unstruck, share_of, sums_of, with_entry, with_element, within_limits};
 
+use crate::counted_words::CountedWords;
+use crate::measures;
 use crate::records::{Element, Entry, Record};
-use crate::{measures, records};
 
 // The largest sum of unstruck entries and quoted shares, 10^18 µg.
 const MOST_EMISSIONS: u64 = 1_000_000_000_000_000_000;
@@ -80,7 +80,8 @@ fn amounts_where(test: bool, amounts: Amounts) -> Amounts
     if test { amounts } else { Amounts::default() }
 }
 
-// What an entry adds: its amounts, or nothing where it is struck.
+// What an entry adds: its amounts, or nothing where it is struck. Field by field, as in `amounts_in` of an element: a `From` for entries
+// and one for elements would be twice as long.
 fn unstruck_amounts(e: Entry) -> Amounts
     ensures { result ≡ by_sides (λ s. unstruck s e) }
 {
@@ -88,45 +89,67 @@ fn unstruck_amounts(e: Entry) -> Amounts
         operation: e.operation,
         provision: e.provision,
     };
-    amounts_where(e.struck == 0, amounts)
+    amounts_where(!e.is_struck(), amounts)
 }
 
-// What an entry adds to this category.
-fn unstruck_in(category: u64, e: Entry) -> Amounts
-    ensures { result ≡ by_sides (λ s. cond (eqb e.category category) (unstruck s e) 0) }
-{
-    amounts_where(e.category == category, unstruck_amounts(e))
+// A record that ground 10 sums: an entry or an element.
+pub trait Summed: Record {
+    ghost use Rattle.book_words.specs.declared.totals.Side.{Side};
+    ghost use Rattle.book_words.specs.declared.totals.Sums.{Sums};
+
+    ghost amount_in: { ℕ → Side → Self → ℕ };
+
+    ghost with_record: { Sums → Self → Sums };
+
+    // What it adds to this category: an entry its amounts where it is not struck, an element its shares.
+    fn amounts_in(self, category: u64) -> Amounts
+        ensures { result ≡ by_sides (λ s. amount_in category s self) };
+
+    // The sums with the record, capped.
+    fn capped_with(self, sums: Sums) -> Sums
+        ensures { result ≡ cap_sums (with_record sums self) };
 }
 
-// The unstruck entries of a category.
-pub fn capped_unstruck_of(book: &[u64], category: u64) -> Amounts
-    requires { CountsWithin book.now }
-    ensures { result ≡ by_sides (λ s. capped (unstruck_of book.now category s)) }
-{
-    (0..book[records::ENTRIES] as usize).fold(Amounts::default(), |sum, place| {
-        add_sides(sum, unstruck_in(category, Entry::read(book, place)))
-    })
+impl Summed for Entry {
+    ghost amount_in = { λ category s e. cond (eqb e.category category) (unstruck s e) 0 };
+
+    ghost with_record = { with_entry };
+
+    fn amounts_in(self, category: u64) -> Amounts {
+        amounts_where(self.category == category, unstruck_amounts(self))
+    }
+
+    fn capped_with(self, sums: Sums) -> Sums {
+        let added = unstruck_amounts(self);
+        Sums {
+            operation: add(sums.operation, added.operation),
+            provision: add(sums.provision, added.provision),
+            activity: capped(sums.activity),
+        }
+    }
 }
 
-// The shares of an element of this category; nothing for another's.
-fn share_in(category: u64, e: Element) -> Amounts
-    ensures { result ≡ by_sides (λ s. cond (eqb e.category category) (share_of s e) 0) }
-{
-    let amounts = Amounts {
-        operation: e.operation,
-        provision: e.provision,
-    };
-    amounts_where(e.category == category, amounts)
-}
+impl Summed for Element {
+    ghost amount_in = { λ category s e. cond (eqb e.category category) (share_of s e) 0 };
 
-// The shares in a category.
-pub fn capped_shares_of(book: &[u64], category: u64) -> Amounts
-    requires { CountsWithin book.now }
-    ensures { result ≡ by_sides (λ s. capped (shares_of book.now category s)) }
-{
-    (0..book[records::ELEMENTS] as usize).fold(Amounts::default(), |sum, place| {
-        add_sides(sum, share_in(category, Element::read(book, place)))
-    })
+    ghost with_record = { with_element };
+
+    fn amounts_in(self, category: u64) -> Amounts {
+        let shares = Amounts {
+            operation: self.operation,
+            provision: self.provision,
+        };
+        amounts_where(self.category == category, shares)
+    }
+
+    fn capped_with(self, sums: Sums) -> Sums {
+        let quoted = self.amounts_in(0);
+        Sums {
+            operation: add(sums.operation, quoted.operation),
+            provision: add(sums.provision, quoted.provision),
+            activity: add(sums.activity, capped_standard_activity(self)),
+        }
+    }
 }
 
 // An element's activity in ground 10, passengers by the standard mass.
@@ -134,54 +157,38 @@ pub fn capped_shares_of(book: &[u64], category: u64) -> Amounts
 fn capped_standard_activity(e: Element) -> u64
     ensures { result ≡ capped (standard_activity e) }
 {
-    if e.code <= 2 {
+    if measures::is_freight(e.code) {
         return capped(e.activity);
     }
     multiply(multiply(e.amount, measures::STANDARD_MASS), e.distance)
 }
 
-// The sums over the entries alone, each capped.
-fn entry_sums(book: &[u64]) -> Sums
-    requires { CountsWithin book.now }
-    ensures { result ≡ cap_sums (sums_below book.now (entries book.now) 0) }
+// What the records of a list add to this category, capped: the unstruck entries, or the shares of the elements.
+pub fn capped_amounts_of<R: Summed>(words: &CountedWords, category: u64) -> Amounts
+    ensures { result
+        ≡ by_sides (λ s. capped (sum_below (count_of words.now R.LIST) (λ p. R.amount_in category s (R.record_at words.now p)))) }
 {
-    (0..book[records::ENTRIES] as usize).fold(Sums::default(), |sums, place| {
-        capped_with_entry(sums, Entry::read(book, place))
+    (0..words.count::<R>() as usize).fold(Amounts::default(), |sum, place| {
+        add_sides(sum, words.record_at::<R>(place).amounts_in(category))
     })
 }
 
-// The sums over a book, each capped: those of its entries, with each element added.
-pub fn capped_sums(book: &[u64]) -> Sums
-    requires { CountsWithin book.now }
-    ensures { result ≡ cap_sums (sums_of book.now) }
+// The sums with one record of a list after the other, capped each time.
+fn sums_over<R: Summed>(words: &CountedWords, sums: Sums) -> Sums
+    ensures { result
+        ≡ fold (λ s p. cap_sums (R.with_record s (R.record_at words.now p))) sums (range_with_len 0 (count_of words.now R.LIST)) }
 {
-    (0..book[records::ELEMENTS] as usize).fold(entry_sums(book), |sums, place| {
-        capped_with_element(sums, Element::read(book, place))
+    (0..words.count::<R>() as usize).fold(sums, |sums, place| {
+        words.record_at::<R>(place).capped_with(sums)
     })
 }
 
-// The sums with one entry more, capped.
-pub fn capped_with_entry(sums: Sums, e: Entry) -> Sums
-    ensures { result ≡ cap_sums (with_entry sums e) }
+// The sums over a book, each capped.
+pub fn capped_sums(words: &CountedWords) -> Sums
+    ensures { result ≡ cap_sums (sums_of words.now) }
 {
-    let added = unstruck_amounts(e);
-    Sums {
-        operation: add(sums.operation, added.operation),
-        provision: add(sums.provision, added.provision),
-        activity: capped(sums.activity),
-    }
-}
-
-// The sums with one element more, capped.
-pub fn capped_with_element(sums: Sums, e: Element) -> Sums
-    ensures { result ≡ cap_sums (with_element sums e) }
-{
-    let quoted = share_in(0, e);
-    Sums {
-        operation: add(sums.operation, quoted.operation),
-        provision: add(sums.provision, quoted.provision),
-        activity: add(sums.activity, capped_standard_activity(e)),
-    }
+    let of_entries = sums_over::<Entry>(words, Sums::default());
+    sums_over::<Element>(words, of_entries)
 }
 
 // The sums are within the limits of refusal 10.

@@ -9,6 +9,7 @@ use native.Mathlib.Omega.{arith}
 use lib.Dec.{eqb}
 use lib.ListN.{length}
 use borrow.Author.Tests.{ne_eqb, not-false}
+use Rattle.std.proofs.lemmas.Bool.{cases_eq}
 use Rattle.book_words.specs.Book.{book_length, categories, most_categories, category_at, category_of, entries, entry_at, elements, element_at, is_closed}
 use Rattle.book_words.specs.declared.totals.Side.TheVariants.{Operation as operation, Provision as provision}
 use Rattle.book_words.specs.Measures.{between}
@@ -26,7 +27,6 @@ use Rattle.book.specs.Calls.{fresh_book, open_refusal, open_reply, open_book, po
 use Rattle.book.specs.Lines.{line_post, line_reply, line_book}
 use Rattle.book.specs.Calls.{enrolled_element, enrol_refusal, enrol_reply, enrol_book, quoted_element, quote_refusal, quote_reply, quote_book}
 use Rattle.book_words.proofs.SoundTests.{sound-counted}
-use Rattle.book_words.proofs.SameRecords.{same_or_not}
 use Rattle.book_words.proofs.Ranges.{between-low, between-high}
 use Rattle.book_words.proofs.RecordsAfterWrite.{ElementAdded}
 use Rattle.book_shares.proofs.CloseAccepted.{accepted-closing}
@@ -241,7 +241,7 @@ module _ (ws : List ℕ) where
       ∙ enrolment-read (with_shares (element_at ws p) (closing_share ws category operation p) (closing_share ws category provision p)) some-category
       ∙ sym (enrolment-read (element_at ws p) some-category))
       (λ (other : (element_at ws p).category ≡ category → ⊥). ap read_element (a.element_kept p other))
-      (same_or_not (element_at ws p).category category)))
+      (cases_eq (element_at ws p).category category)))
 
 -- an accepted call gives the new tally, a refused one leaves it with the book
 feed-read : (ws ws' : List ℕ) (call : Call) (refusal : ℕ) → (refusal ≡ 0 → tallied (tally_of ws) call ≡ tally_of ws') → ((refusal ≡ 0 → ⊥) → ws' ≡ ws)

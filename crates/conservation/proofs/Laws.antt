@@ -8,6 +8,7 @@ use native.Mathlib.Omega.{arith}
 use lib.Dec.{eqb, leb}
 use lib.ListN.{length}
 use borrow.Author.Tests.{le-leb}
+use Rattle.std.proofs.lemmas.Bool.{and_from}
 use Rattle.apportion.specs.Places.{one_if, sum_below}
 use Rattle.book_words.specs.Book.{book_length, elements, element_at, is_closed}
 use Rattle.book_words.specs.Measures.{is_chain, most_chains}
@@ -22,7 +23,6 @@ use Rattle.book.specs.ClassTotal.{over_elements, class_total}
 use Rattle.book.specs.Statements.{statement_reply, statement_of, elements_over, waiting_over, shares_over, of_chain, waits}
 use Rattle.apportion.proofs.Grounds.{either}
 use Rattle.apportion.proofs.Sums.{sum-add, sum-cong}
-use Rattle.book_words.proofs.Booleans.{and_both}
 use Rattle.book_words.proofs.ShareSums.{category-inside, open-shares, shares-all, sum-by-chain}
 use Rattle.book.proofs.Laws.{fresh_accepted, fresh-sound, open-sound, open-refused, post-sound, post-refused, strike-sound, strike-refused}
 use Rattle.book.proofs.Laws.{line-posted, line_refused, line-sound}
@@ -43,7 +43,7 @@ pub use Rattle.conservation.proofs.TallyLists.{numbered-each}
 -- a sound book whose closed categories' shares are near, with the tally that it is read as
 module _ (ws : List ℕ) (fine : sound ws ≡ true) where
   known : (chain : ℕ) → 1 ≤ chain → chain ≤ most_chains → is_chain chain ≡ true
-  known chain low high = and_both (leb 1 chain) (leb chain most_chains) (le-leb 1 chain low) (le-leb chain most_chains high)
+  known chain low high = and_from (leb 1 chain) (leb chain most_chains) (le-leb 1 chain low) (le-leb chain most_chains high)
 
   -- the counts and sums of a statement are the tally's
   counted : (chain : ℕ) → elements_over ws (of_chain chain) ≡ (statement_in (tally_of ws) ws chain).elements

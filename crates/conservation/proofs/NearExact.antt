@@ -7,6 +7,7 @@ use Prim.Native.Nat.{ℕ, ◌-◌, ◌≤◌, ◌<◌}
 use native.Mathlib.Omega.{arith}
 use lib.Dec.{eqb}
 use lib.ListN.{length}
+use Rattle.std.proofs.lemmas.Bool.{cases_eq, cases_lt}
 use Rattle.apportion.specs.Fractions.{Fraction}
 use Rattle.apportion.specs.Nearness.{Within}
 use borrow.Author.Tests.{not-false}
@@ -24,8 +25,6 @@ use Rattle.book.specs.declared.arguments.PostArguments.{PostArguments}
 use Rattle.book.specs.declared.arguments.QuoteArguments.{QuoteArguments}
 use Rattle.book.specs.Calls.{fresh_book, open_refusal, open_book, post_refusal, post_book, posted_entry, strike_refusal, strike_book}
 use Rattle.book.specs.Calls.{enrol_refusal, enrol_book, enrolled_element, quote_refusal, quote_book, quoted_element}
-use Rattle.apportion.proofs.Sums.{below_or_not}
-use Rattle.book_words.proofs.SameRecords.{same_or_not}
 use Rattle.book_words.proofs.Ranges.{between-low, between-high}
 use Rattle.book_words.proofs.RecordRules.{element-inside}
 use Rattle.book_words.proofs.RecordsAfterWrite.{ElementAdded}
@@ -108,7 +107,7 @@ module _ (ws ws' : List ℕ) where
         (λ (i : elements ws ≤ p).
         let m = k.more-open p i h some in
         absurd (true≢false (sym closed ∙ closed_same (element_at ws' p).category some m.0 ∙ m.1)))
-        (below_or_not p (elements ws))
+        (cases_lt p (elements ws))
       where
         held : p < elements ws → Held p
         held i =
@@ -249,4 +248,4 @@ near-close ws category e near p h some closed side =
     (λ (other : (element_at ws p).category ≡ category → ⊥).
     let held = other-held ws new category share w a (between-low 1 (categories ws) category ok.numbered) p i other some closed in
     near-held ws new near p some held side)
-    (same_or_not (element_at ws p).category category)
+    (cases_eq (element_at ws p).category category)

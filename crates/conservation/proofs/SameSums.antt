@@ -6,6 +6,7 @@ use Prim.Native.Nat.{ℕ, zero, suc, ◌≤◌, ◌<◌}
 use native.Mathlib.Nat.{eq-or-lt_of_le}
 use native.Mathlib.Omega.{arith}
 use borrow.Author.Tests.{ne_eqb}
+use Rattle.std.proofs.lemmas.Bool.{cases_eq}
 use Rattle.apportion.specs.Places.{sum_below}
 use Rattle.book_words.specs.Book.{entries, most_entries, entry_at, elements, element_at}
 use Rattle.book_words.specs.Measures.{by_stated_mass}
@@ -13,11 +14,8 @@ use Rattle.book_words.specs.declared.totals.Side.{Side}
 use Rattle.book_words.specs.declared.records.Element.{Element}
 use Rattle.book_words.specs.declared.records.Entry.{Entry}
 use Rattle.book_shares.specs.Shares.{exact_of, exact_share}
-use Rattle.book_shares.specs.Sums.{pooled, pool, among, sum_among, activity_among, passengers_by_mass}
-use Rattle.book_shares.specs.declared.weights.Recipients.{Recipients}
-use Rattle.book_shares.specs.declared.weights.Recipients.TheVariants.{Freight, Passengers, Group}
+use Rattle.book_shares.specs.Sums.{Recipients, Freight, Passengers, Group, pooled, pool, among, sum_among, activity_among, passengers_by_mass}
 use Rattle.apportion.proofs.Sums.{sum-cong}
-use Rattle.book_words.proofs.SameRecords.{same_or_not}
 use Rattle.book_words.proofs.RecordsAfterWrite.{struck_entry, EntryAdded, EntryStruck}
 use Rattle.book_shares.proofs.CloseWrites.{CategoryClosed, with_shares}
 use Rattle.book_shares.proofs.CloseKeepsSound.{measure-kept}
@@ -89,7 +87,7 @@ module _ (ws ws' : List ℕ) (category : ℕ) where
             ∙ pooled-elsewhere category group side (struck_entry (entry_at ws place)) other
             ∙ sym (ap (λ (q : ℕ). pooled category group side (entry_at ws q)) e ∙ pooled-elsewhere category group side (entry_at ws place) other))
             (λ (ne : p ≡ place → ⊥). ap (pooled category group side) (a.entry_kept p ne))
-            (same_or_not p place);
+            (cases_eq p place);
         more_elsewhere = λ p i h. let z : ⊥ = omega (arith, a.same_entries) in absurd z;
       }
 

@@ -6,6 +6,7 @@ use Prim.Native.Nat.{ℕ}
 use lib.Dec.{eqb}
 use lib.Ieee.{lt}
 use borrow.Author.Tests.{eqb-true}
+use Rattle.std.proofs.lemmas.Bool.{and_parts}
 use Rattle.apportion.specs.Dividing.{refusal, shares_after, divided, floor_at, remainder_at, left_over, before, rank, unit_for, unit_at, share_at}
 use Rattle.apportion.specs.Fractions.{nearest, added_by_rounding}
 use Rattle.apportion.specs.Places.{sum_of}
@@ -19,7 +20,6 @@ use Rattle.book_words.specs.Soundness.{sums_fine, shares_fine, categories_fine, 
 use Rattle.book_words.specs.declared.totals.Side.{Side}
 use Rattle.book_words.specs.declared.totals.Side.TheVariants.{Operation as operation, Provision as provision}
 use Rattle.book_words.specs.Totals.{all_unstruck, unstruck_of, shares_of, activities}
-use Rattle.book_words.proofs.Booleans.{both}
 use Rattle.book_shares.specs.Closing.{close_refusal, close_with, close_book}
 use Rattle.book_shares.specs.Shares.{divided_all, weights, part_at, closing_share}
 use Rattle.book_shares.specs.Sums.{pool as pool_of, activity_among, passengers_by_mass}
@@ -32,7 +32,7 @@ use Rattle.conservation.specs.Starred.{reckoned, to_hand_out, Row, starred, expe
 
 -- what two tests tell, each its own
 each : {A B : Type 0} (a b : Bool) → (a ≡ true → A) → (b ≡ true → B) → a && b ≡ true → A × B
-each a b first second e = let parts = both a b e in (first parts.0, second parts.1)
+each a b first second e = let parts = and_parts a b e in (first parts.0, second parts.1)
 
 -- two lists have the same numbers
 abbrev same_list : List ℕ → List ℕ → Bool

@@ -8,8 +8,8 @@ use native.Mathlib.Nat.{eq-or-lt_of_le}
 use native.Mathlib.Numerals.{add-one}
 use native.Mathlib.Omega.{arith}
 use lib.ListN.{length, length-append}
+use Rattle.std.proofs.lemmas.Bool.{cases_lt}
 use Rattle.apportion.specs.Places.{sum_below}
-use Rattle.apportion.proofs.Sums.{below_or_not}
 use Rattle.conservation.specs.Conserved.{sum_from, sum_numbered}
 use Rattle.conservation.specs.Tally.{numbered, changed_at}
 
@@ -99,8 +99,8 @@ numbered-some n f k x e =
     ⊎_elim
     (λ (l : n < k). absurd (missing (inr l)))
     (λ (high : k ≤ n). (low, high, there low high))
-    (below_or_not n k))
-    (below_or_not k 1)
+    (cases_lt n k))
+    (cases_lt k 1)
   where
     missing : (k < 1) ⊎ (n < k) → ⊥
     missing out = none-ne-some x (sym (numbered-none n f k out) ∙ e)

@@ -16,10 +16,8 @@ use Rattle.book_words.specs.declared.totals.Side.TheVariants.{Operation as opera
 use Rattle.book_words.specs.Totals.{share_of, unstruck}
 use Rattle.book_words.specs.declared.records.Element.{Element}
 use Rattle.book_words.specs.declared.records.Entry.{Entry}
-use Rattle.book_shares.specs.declared.weights.Recipients.{Recipients}
-use Rattle.book_shares.specs.declared.weights.Recipients.TheVariants.{Freight, Passengers, Group}
 use Rattle.book_shares.specs.Shares.{exact_share, exact_of}
-use Rattle.book_shares.specs.Sums.{among, pooled, pool, activity_among, passengers_by_mass}
+use Rattle.book_shares.specs.Sums.{Recipients, Freight, Passengers, Group, among, pooled, pool, activity_among, passengers_by_mass}
 use Rattle.book.specs.Statements.{waits}
 use Rattle.apportion.proofs.Sums.{sum-cong}
 use Rattle.book_words.proofs.ShareSums.{entry-category, category-inside}

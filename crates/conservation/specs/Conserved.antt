@@ -10,10 +10,8 @@ use Rattle.book_words.specs.Measures.{heads_by_mass, most_chains}
 use Rattle.book_words.specs.declared.totals.Side.{Side}
 use Rattle.book_words.specs.declared.totals.Side.TheVariants.{Operation as operation, Provision as provision}
 use Rattle.book_words.specs.Totals.{share_of}
-use Rattle.book_shares.specs.declared.weights.Recipients.{Recipients}
-use Rattle.book_shares.specs.declared.weights.Recipients.TheVariants.{Freight, Passengers, Group}
 use Rattle.book_shares.specs.Shares.{exact_share}
-use Rattle.book_shares.specs.Sums.{if_recipient}
+use Rattle.book_shares.specs.Sums.{Recipients, Freight, Passengers, Group, if_recipient}
 use Rattle.book.specs.Statements.{StatementReply}
 use Rattle.book.specs.Calls.{fresh_refusal}
 use Rattle.book.specs.Statements.{statement_reply}

@@ -19,7 +19,7 @@ use Rattle.report.specs.Text.{last_line_of}
 use Rattle.report.proofs.Laws.{sheet-last-line}
 use Rattle.quaymeter.specs.Conserving.{run_of_file, PrintedConservation}
 use Rattle.quaymeter.specs.Program.{zero_words, printed}
-use Rattle.quaymeter.proofs.Printing.{printed-book}
+use Rattle.quaymeter.proofs.Printing.{printed_book}
 
 module _ (file : List ℕ) (loaded : load_answer zero_words file ≡ Loaded) where
   -- the book that is loaded is that of the run of all the file's calls
@@ -31,7 +31,7 @@ module _ (file : List ℕ) (loaded : load_answer zero_words file ≡ Loaded) whe
   -- and its sheet is printed
   printed-of-file : printed file ≡ sheet_text (run_of_file file).book
   printed-of-file =
-      sym (printed-book zero_words file {book = load_book zero_words file} loaded refl refl) ∙ ap sheet_text book-of-file
+      sym (printed_book zero_words file {book = load_book zero_words file} loaded refl refl) ∙ ap sheet_text book-of-file
 
 -- Demand 3, of what is printed for every file that is loaded.
 pub printed-conserved : PrintedConservation

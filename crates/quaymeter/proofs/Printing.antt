@@ -15,15 +15,22 @@ use Rattle.book_file.specs.declared.answers.Load.TheVariants.{Loaded, Stopped}
 use Rattle.book_file.specs.declared.answers.Place.{Place}
 use Rattle.book_words.specs.Book.{book_length}
 use Rattle.book_words.specs.Soundness.{sound}
-use Rattle.report.proofs.Laws.{sheet-fits, refused-fits, fitting-written, fitting-buffer}
+use Rattle.report.proofs.Laws.{sheet-answered, sheet-fits, refused-fits, fitting-written, fitting-buffer}
 use Rattle.std.proofs.Common.{Ok}
 use Rattle.report.specs.Printing.{Printed, answer_for, buffer_with}
-use Rattle.report.specs.Sheet.{sheet_text, sheet_room, refused_text}
+use Rattle.report.specs.Sheet.{sheet_text, sheet_room, sheet_answer, refused_text}
 use Rattle.quaymeter.specs.Program.{refused_line, text_for, printed_from}
 
--- a text that fits is printed whole
-pub printed-whole : (text : List ℕ) (room : ℕ) {answer : Printed} → answer ≡ answer_for text room → length text ≤ room → answer ≡ Ok (length text)
-printed-whole text room is h = is ∙ fitting-written text room h
+-- the sheet of a sound book fits in the room of a sheet, and so is printed whole; so is the line of a refusal
+pub sheet_whole : (book : List ℕ) (room : ℕ) {answer : Printed} → answer ≡ sheet_answer book room → sound book ≡ true → room ≡ sheet_room
+    → answer ≡ Ok (length (sheet_text book))
+sheet_whole book room is fine are =
+    is ∙ sheet-answered book room fine ∙ fitting-written (sheet_text book) room (omega (arith, are, sheet-fits book fine))
+
+pub line_whole : (number table record_number room : ℕ) {answer : Printed} → answer ≡ answer_for (refused_text number table record_number) room
+    → room ≡ sheet_room → answer ≡ Ok (length (refused_text number table record_number))
+line_whole number table record_number room is are =
+    is ∙ fitting-written (refused_text number table record_number) room (omega (arith, are, refused-fits number table record_number))
 
 -- the sheet of a book, or the line of a refusal
 fits-for : (answer : Load) (book : List ℕ) → (answer ≡ Loaded → sound book ≡ true) → length (text_for answer book) ≤ sheet_room
@@ -33,16 +40,16 @@ fits-for (Stopped number place) book fine =
     omega (arith, refused-fits n.refusal n.table n.«record»)
 
 -- by the answer of loading
-pub printed-book : (words file : List ℕ) {book : List ℕ} {answer : Load} → answer ≡ Loaded → answer ≡ load_answer words file
+pub printed_book : (words file : List ℕ) {book : List ℕ} {answer : Load} → answer ≡ Loaded → answer ≡ load_answer words file
     → book ≡ load_book words file → sheet_text book ≡ printed_from words file
 unfolding printed_from
-printed-book words file told is left =
+printed_book words file told is left =
     ap (λ (b : List ℕ). text_for Loaded b) left ∙ ap (λ (a : Load). text_for a (load_book words file)) (sym told ∙ is)
 
-pub printed-refusal : (words file : List ℕ) {answer : Load} {number : ℕ} {place : Place} → answer ≡ Stopped number place
+pub printed_refusal : (words file : List ℕ) {answer : Load} {number : ℕ} {place : Place} → answer ≡ Stopped number place
     → answer ≡ load_answer words file → refused_line (place_numbers number place) ≡ printed_from words file
 unfolding printed_from
-printed-refusal words file told is = ap (λ (a : Load). text_for a (load_book words file)) (sym told ∙ is)
+printed_refusal words file told is = ap (λ (a : Load). text_for a (load_book words file)) (sym told ∙ is)
 
 -- so what is printed fits
 pub printed-fits : (words file : List ℕ) → length (printed_from words file) ≤ sheet_room

@@ -6,18 +6,17 @@ ghost use Rattle.book_file.specs.Answers.{place_numbers};
 ghost use Rattle.book_file.specs.File.{most_bytes};
 ghost use Rattle.book_file.specs.Loading.{load_book};
 ghost use Rattle.report.specs.Printing.{buffer_with};
-ghost use Rattle.report.specs.Sheet.{sheet_text, sheet_room};
+ghost use Rattle.report.specs.Sheet.{sheet_text};
 ghost use Rattle.quaymeter.specs.Program.{refused_line, printed_from, printed};
 
-use book_file::{Load, Place};
+use book_file::{Load, Numbers, Place};
 use book_words::SoundWords;
 
 // One byte more than the longest file, so that a longer input is refused and not cut.
 const INPUT_ROOM: usize = 16_385;
 
 // The whole job, from bytes to bytes: puts what is printed for a file at the start of the buffer, and answers its length.
-fn print_file(file: &[u8], out: &mut [u8]) -> usize
-    requires { length out.old ≡ sheet_room }
+fn print_file(file: &[u8], out: &mut [u8; report::SHEET_ROOM]) -> usize
     ensures value { result ≡ length (printed file.now) }
     ensures out_after { out.new ≡ printed file.now ++ drop result out.old }
 {
@@ -26,12 +25,13 @@ fn print_file(file: &[u8], out: &mut [u8]) -> usize
 }
 
 // The same, with the book that the file is loaded into.
-fn print_loaded(file: &[u8], book: &mut [u64], out: &mut [u8]) -> usize
-    requires { length out.old ≡ sheet_room }
+#[tactic(auto, using(crate::proofs::Printing::printed_book, crate::proofs::Printing::printed_refusal))]
+fn print_loaded(file: &[u8], book: &mut [u64], out: &mut [u8; report::SHEET_ROOM]) -> usize
     ensures value { result ≡ length (printed_from book.old file.now) }
     ensures book_after { book.new ≡ load_book book.old file.now }
     ensures out_after { out.new ≡ buffer_with (printed_from book.old file.now) out.old }
 {
+    // Matched, as document 01 wants it of the program that prints.
     let answer = book_file::load(book, file);
     match answer {
         Load::Loaded => print_book(&SoundWords::of(book), out),
@@ -40,8 +40,8 @@ fn print_loaded(file: &[u8], book: &mut [u64], out: &mut [u8]) -> usize
 }
 
 // Prints the sheet of a loaded book.
-fn print_book(book: &SoundWords, out: &mut [u8]) -> usize
-    requires { length out.old ≡ sheet_room }
+#[tactic(auto, using(crate::proofs::Printing::sheet_whole))]
+fn print_book(book: &SoundWords, out: &mut [u8; report::SHEET_ROOM]) -> usize
     ensures value { result ≡ length (sheet_text book.now) }
     ensures out_after { out.new ≡ buffer_with (sheet_text book.now) out.old }
 {
@@ -49,12 +49,12 @@ fn print_book(book: &SoundWords, out: &mut [u8]) -> usize
 }
 
 // Prints the line of a stop at a place.
-fn print_refusal(number: u64, place: Place, out: &mut [u8]) -> usize
-    requires { length out.old ≡ sheet_room }
+#[tactic(auto, using(crate::proofs::Printing::line_whole))]
+fn print_refusal(number: u64, place: Place, out: &mut [u8; report::SHEET_ROOM]) -> usize
     ensures value { result ≡ length (refused_line (place_numbers number place)) }
     ensures out_after { out.new ≡ buffer_with (refused_line (place_numbers number place)) out.old }
 {
-    let numbers = book_file::numbers_of(Load::Stopped(number, place));
+    let numbers = Numbers::from(Load::Stopped(number, place));
     report::refusal_line(numbers.refusal, numbers.table, numbers.record, out).unwrap()
 }
 

@@ -7,20 +7,19 @@ use mathlib.Core.Path.{◌≡◌, refl, ap, sym, subst, ◌∙◌}
 use borrow.Author.Tests.{ltb-false, leb-true, eqb-true, le-ltb, le-leb, ne_eqb}
 use lib.Dec.{eqb, ltb, leb}
 use lib.ListN.{length, take, drop}
-use lib.Seq.{take-set-le}
+use Rattle.std.proofs.lemmas.Bool.{and_parts}
 use Rattle.apportion.specs.Grounds.{accepted}
 use Rattle.apportion.proofs.Grounds.{none-holds}
 use Rattle.book_words.specs.Book.{book_length}
-use Rattle.book_words.proofs.Booleans.{both}
 use Rattle.book.specs.Calls.{fresh_grounds, fresh_refusal, fresh_book}
 use Rattle.book.proofs.Laws.{fresh-made}
 use Rattle.conservation.specs.declared.Call.{Call}
 use Rattle.conservation.specs.Runs.{Run, step, next, after, run_of}
 use Rattle.conservation.proofs.Laws.{conserved as conserves, step-length}
-use Rattle.replay.specs.declared.cells.Cells.{Cells}
+use Rattle.workbook.specs.declared.cells.Cell.{Cell}
 use Rattle.replay.specs.declared.records.Words.{Words}
 use Rattle.replay.specs.Answers.{call_of, answered}
-use Rattle.replay.specs.Cells.{cell_of, no_cells, with_cell, cells_after}
+use Rattle.replay.specs.Cells.{cell_of, listed_line, cells_after}
 use Rattle.replay.specs.Conserving.{words_in, record_words, is_call, leaves_book, are_of_list, calls_in, Played, StartsList, ReplayConservation}
 use Rattle.replay.specs.Replay.{bad, lent_count, lent_words, with_cells, called, division_done, changed, dumped, preview_done, cell_listed, line_done, performed}
 use Rattle.replay.specs.Replay.{Machine}
@@ -38,10 +37,10 @@ given_back (suc n) (m ∷ ms) [] same = let z : ⊥ = omega arith in absurd z
 given_back (suc n) (m ∷ ms) (b ∷ bs) same = ap (λ (xs : List ℕ). b ∷ xs) (given_back n ms bs (omega arith))
 
 -- a machine with these lent words and these listed cells
-abbrev Holding : List ℕ → Cells → Machine → Type 0
+abbrev Holding : List ℕ → List Cell → Machine → Type 0
 Holding ws cells machine = (lent_words machine ≡ ws) × (machine.cells ≡ cells)
 
-either-holding : (ws : List ℕ) (cells : Cells) (test : Bool) (one other : Machine) → Holding ws cells one → Holding ws cells other
+either-holding : (ws : List ℕ) (cells : List Cell) (test : Bool) (one other : Machine) → Holding ws cells one → Holding ws cells other
     → Holding ws cells (cond test one other)
 either-holding ws cells true one other of_one of_other = of_one
 either-holding ws cells false one other of_one of_other = of_other
@@ -70,7 +69,7 @@ module _ (words : Words) (file : List ℕ) (machine : Machine) where
       (fresh-made (lent_words machine) (fresh-long (lent_words machine) e)).same_length)
 
   abbrev call : Call
-  call = call_of words machine.cells.line
+  call = call_of words (listed_line machine.cells)
 
   -- a call of operations 2 to 7, which leaves the listed cells, and a line, which uses them up
   abbrev Made : Type 0
@@ -83,8 +82,8 @@ module _ (words : Words) (file : List ℕ) (machine : Machine) where
   unfolding performed called answered
   plain-made is =
       let n = words.operation in
-      let low = leb-true 2 n (both (leb 2 n) (leb n 7) is).0 in
-      let high = leb-true n 7 (both (leb 2 n) (leb n 7) is).1 in
+      let low = leb-true 2 n (and_parts (leb 2 n) (leb n 7) is).0 in
+      let high = leb-true n 7 (and_parts (leb 2 n) (leb n 7) is).1 in
       rw (
         le-leb 1 n (omega arith),
         le-leb n 9 (omega arith),
@@ -97,12 +96,12 @@ module _ (words : Words) (file : List ℕ) (machine : Machine) where
       )
       (returned-book, refl)
 
-  line-done : (performed 17 words file machine).good ≡ true → Holding (step (lent_words machine) call).book no_cells (performed 17 words file machine)
+  line-done : (performed 17 words file machine).good ≡ true → Holding (step (lent_words machine) call).book [] (performed 17 words file machine)
   unfolding performed called answered line_done
-  line-done good = go (eqb machine.cells.count 3) good
+  line-done good = go (eqb (length machine.cells) 3) good
     where
-      go : (three : Bool) → (cond three (with_cells no_cells (called 17 words file machine)) (bad machine)).good ≡ true
-          → Holding (step (lent_words machine) call).book no_cells (cond three (with_cells no_cells (called 17 words file machine)) (bad machine))
+      go : (three : Bool) → (cond three (with_cells [] (called 17 words file machine)) (bad machine)).good ≡ true
+          → Holding (step (lent_words machine) call).book [] (cond three (with_cells [] (called 17 words file machine)) (bad machine))
       go true good = (returned-book, refl)
       go false good = absurd (true≢false (sym good))
 
@@ -125,11 +124,11 @@ module _ (words : Words) (file : List ℕ) (machine : Machine) where
 
   listed-passed : words.operation ≡ 16 → done.good ≡ true → Passed
   unfolding performed cell_listed
-  listed-passed is good = rw is (go (ltb 2 words.first || ltb 2 machine.cells.count) (rw is at good))
+  listed-passed is good = rw is (go (ltb 2 words.first || ltb 2 (length machine.cells)) (rw is at good))
     where
-      go : (over : Bool) → (cond over (bad machine) (with_cells (with_cell (cell_of words) machine.cells) machine)).good ≡ true
-          → Holding (lent_words machine) (with_cell (cell_of words) machine.cells)
-          (cond over (bad machine) (with_cells (with_cell (cell_of words) machine.cells) machine))
+      go : (over : Bool) → (cond over (bad machine) (with_cells (machine.cells ++ (cell_of words ∷ [])) machine)).good ≡ true
+          → Holding (lent_words machine) (machine.cells ++ (cell_of words ∷ []))
+          (cond over (bad machine) (with_cells (machine.cells ++ (cell_of words ∷ [])) machine))
       go true good = absurd (true≢false (sym good))
       go false good = (refl, refl)
 
@@ -144,10 +143,7 @@ module _ (words : Words) (file : List ℕ) (machine : Machine) where
       (λ is. either-test (eqb n 9) _ is (λ e. rw (eqb-true n 9 e) (same, refl))
       (λ is. either-test (eqb n 10) _ is (λ e. rw (eqb-true n 10 e) (either-holding ws cells (leb words.second 300) _ _ (refl, refl) (refl, refl)))
       (λ is. either-test (eqb n 11) _ is
-      (λ e. rw (eqb-true n 11 e)
-      (either-holding ws cells (ltb machine.count 300) _ _
-      (take-set-le (lent_count machine) machine.memory _ words.first (omega arith), refl)
-      (refl, refl)))
+      (λ e. rw (eqb-true n 11 e) (either-holding ws cells (ltb (length machine.weights) 300) _ _ (refl, refl) (refl, refl)))
       (λ is. either-test (eqb n 14) _ is
       (λ e. rw (eqb-true n 14 e) (either-holding ws cells (leb (words.first + words.second) 3000) _ _ (refl, refl) (refl, refl)))
       (λ is. either-test (eqb n 16) _ is (λ e. listed-passed (eqb-true n 16 e) good)
@@ -174,17 +170,17 @@ no-load : (words : Words) → is_call words || leaves_book words ≡ true → wo
 no-load words is e = let z : ◌≡◌ {A = ℕ} 0 1 = cc (rw e at is) in omega arith
 
 -- the lent words are the book of a run of calls, these cells are listed, and no file is on its way
-record Book (run : Run) (cells : Cells) (stage : Stage) : Type 0 where
+record Book (run : Run) (cells : List Cell) (stage : Stage) : Type 0 where
   no_file : stage.missing ≡ 0
   book_of_run : lent_words stage.machine ≡ run.book
   listed : stage.machine.cells ≡ cells
 
 -- the run after a record of a list: its call is made, where it is one
-abbrev onward : Run → Cells → Words → Run
-onward run cells words = cond (is_call words) (next run (call_of words cells.line)) run
+abbrev onward : Run → List Cell → Words → Run
+onward run cells words = cond (is_call words) (next run (call_of words (listed_line cells))) run
 
 -- a record of a list makes its call, or leaves the book as it is
-record-played : (run : Run) (cells : Cells) (bytes : List ℕ) (stage : Stage) → Book run cells stage → is_call (words_of bytes) || leaves_book (words_of bytes) ≡ true
+record-played : (run : Run) (cells : List Cell) (bytes : List ℕ) (stage : Stage) → Book run cells stage → is_call (words_of bytes) || leaves_book (words_of bytes) ≡ true
     → (handled bytes stage).machine.good ≡ true → Book (onward run cells (words_of bytes)) (cells_after (words_of bytes).operation (words_of bytes) cells) (handled bytes stage)
 record-played run cells bytes stage before of-list good =
     let one = performs bytes stage before.no_file (no-load (words_of bytes) of-list) (uncut bytes stage good) in
@@ -193,7 +189,7 @@ record-played run cells bytes stage before of-list good =
   where
     go : (call : Bool) → is_call (words_of bytes) ≡ call → call || leaves_book (words_of bytes) ≡ true
         → (performed (words_of bytes).operation (words_of bytes) stage.file stage.machine).good ≡ true
-        → Holding (cond call (next run (call_of (words_of bytes) cells.line)) run).book (cells_after (words_of bytes).operation (words_of bytes) cells)
+        → Holding (cond call (next run (call_of (words_of bytes) (listed_line cells))) run).book (cells_after (words_of bytes).operation (words_of bytes) cells)
         (performed (words_of bytes).operation (words_of bytes) stage.file stage.machine)
     go true is of-list good =
         let made = call-made (words_of bytes) stage.file stage.machine is good in
@@ -206,18 +202,18 @@ after-record call run made calls =
     cond-through (λ (r : Run). after r calls) call (next run made) run ∙ sym (cond-through (after run) call (made ∷ calls) calls)
 
 -- records go on where none was bad
-unless-bad : (run : Run) (cells : Cells) (good : Bool) (one more : Stage) → one.machine.good ≡ good → (cond good more one).machine.good ≡ true
+unless-bad : (run : Run) (cells : List Cell) (good : Bool) (one more : Stage) → one.machine.good ≡ good → (cond good more one).machine.good ≡ true
     → (one.machine.good ≡ true → more.machine.good ≡ true → Book run cells more) → Book run cells (cond good more one)
 unless-bad run cells true one more is fine on = on is fine
 unless-bad run cells false one more is fine on = let z : ◌≡◌ {A = ℕ} 0 1 = cc in absurd (omega arith)
 
 -- the listed cells after the records
-abbrev cells_past : Cells → List Words → Cells
+abbrev cells_past : List Cell → List Words → List Cell
 cells_past cells [] = cells
 cells_past cells (words ∷ rest) = cells_past (cells_after words.operation words cells) rest
 
 -- so many records of a list
-plays : (left : ℕ) (run : Run) (cells : Cells) (bytes : List ℕ) (stage : Stage) → Book run cells stage → are_of_list (words_in left bytes) ≡ true
+plays : (left : ℕ) (run : Run) (cells : List Cell) (bytes : List ℕ) (stage : Stage) → Book run cells stage → are_of_list (words_in left bytes) ≡ true
     → (replayed_of left bytes stage).machine.good ≡ true
     → Book (after run (calls_in cells (words_in left bytes))) (cells_past cells (words_in left bytes)) (replayed_of left bytes stage)
 plays zero run cells bytes stage before of-list good = before
@@ -226,13 +222,13 @@ plays (suc n) run cells bytes stage before of-list good =
     let done = handled bytes (counted stage) in
     let rest = words_in n (drop record_bytes bytes) in
     let later-cells = cells_after words.operation words cells in
-    let each = both (is_call words || leaves_book words) (are_of_list rest) of-list in
+    let each = and_parts (is_call words || leaves_book words) (are_of_list rest) of-list in
     unless-bad (after run (calls_in cells (words ∷ rest))) (cells_past cells (words ∷ rest)) done.machine.good done
     (replayed_of n (drop record_bytes bytes) done) refl good
     (λ fine later.
     let ready : Book run cells (counted stage) = record { no_file = before.no_file; book_of_run = before.book_of_run; listed = before.listed } in
     let one = record-played run cells bytes (counted stage) ready each.0 fine in
-    rw (← after-record (is_call words) run (call_of words cells.line) (calls_in later-cells rest))
+    rw (← after-record (is_call words) run (call_of words (listed_line cells)) (calls_in later-cells rest))
     (plays n (onward run cells words) later-cells (drop record_bytes bytes) done one each.1 later))
 
 -- the calls of a list, one part after the other
@@ -241,7 +237,7 @@ after_both run [] more = refl
 after_both run (call ∷ calls) more = after_both (next run call) calls more
 
 -- demand 3 holds of such a book
-played : (ws : List ℕ) (calls : List Call) (cells : Cells) (stage : Stage) → fresh_refusal ws ≡ 0 → Book (run_of ws calls) cells stage → Played ws calls stage
+played : (ws : List ℕ) (calls : List Call) (cells : List Cell) (stage : Stage) → fresh_refusal ws ≡ 0 → Book (run_of ws calls) cells stage → Played ws calls stage
 played ws calls cells stage accepted book =
     record {
       fresh_accepted = accepted;

@@ -1,15 +1,11 @@
 -- The waiting bytes after texts. Assumes nothing.
 use Prim.Native.Nat.{ℕ, suc, ◌+◌, ◌<◌}
 use native.Mathlib.Numerals.{add-one}
-use mathlib.Core.Bool.{Bool, true, false}
 use mathlib.Core.Path.{◌≡◌, refl, sym}
-use mir.Val.{bool_byte}
 use mathlib.Core.List.{List, [], ◌∷◌, ◌++◌, append_assoc}
 use lib.ListN.{length, get_or, drop}
 use lib.Seq.{drop-cons}
-use Rattle.apportion.specs.Places.{one_if}
 use Rattle.report.specs.Text.{decimal, line_end}
-use Rattle.replay.specs.Text.{numbers_line, bad_record, bad_line}
 use Rattle.replay.specs.Waiting.{put_byte, put}
 
 pub put-append : (bytes s t : List ℕ) → put bytes (s ++ t) ≡ put (put bytes s) t
@@ -22,14 +18,3 @@ pub line_step : (bytes numbers : List ℕ) (i : ℕ) → i < length numbers
 line_step bytes numbers i h =
     rw (add-one i, drop-cons numbers i 0, append_assoc (decimal (get_or numbers i 0)))
     (sym (put-append (put_byte bytes 32) (decimal (get_or numbers i 0)) (line_end (drop (suc i) numbers))))
-
--- a bad record's line is its words and its number
-pub put-bad-line : (bytes : List ℕ) (number : ℕ)
-    → put bytes (bad_line number) ≡ put (put bytes bad_record) (numbers_line (number ∷ []))
-unfolding bad_line
-put-bad-line bytes number = put-append bytes bad_record (numbers_line (number ∷ []))
-
--- a Bool as a number: 1 is added for the record that did not come
-pub one_more : (test : Bool) → bool_byte test ≡ one_if test
-one_more true = refl
-one_more false = refl

@@ -15,6 +15,7 @@ use Rattle.conservation.specs.declared.Call.TheVariants.{Open, Post, Line, Strik
 use Rattle.conservation.specs.Runs.{step}
 use Rattle.book_file.specs.declared.answers.Numbers.{Numbers}
 use Rattle.book_file.specs.Loading.{load_numbers, load_book}
+use Rattle.workbook.specs.declared.cells.Cell.{Cell}
 use Rattle.workbook.specs.declared.lines.Line.{Line as WorkbookLine}
 use Rattle.replay.specs.declared.records.Words.{Words}
 
@@ -51,11 +52,11 @@ quote_of words =
       provision_intensity = words.sixth;
     }
 
-abbrev line_of : Words → WorkbookLine → LineArguments
+abbrev line_of : Words → WorkbookLine Cell → LineArguments
 line_of words line = record { category = words.first; group = words.second; line = line }
 
 -- the call that the words of operations 2 to 7 and 17 ask for, 17 with the line of its cells
-unfoldable pub call_of : Words → WorkbookLine → Call
+unfoldable pub call_of : Words → WorkbookLine Cell → Call
 call_of words line =
     cond (eqb words.operation 2) (Open words.first)
     (cond (eqb words.operation 3) (Post (post_of words))
@@ -92,7 +93,7 @@ answering numbers book = record { numbers = numbers; book = book }
 
 -- on the lent words, 15 with the bytes of its file and 17 with the line of its cells; a statement and an intensity leave the words as
 -- they are
-unfoldable pub answered : ℕ → Words → WorkbookLine → List ℕ → List ℕ → Answered
+unfoldable pub answered : ℕ → Words → WorkbookLine Cell → List ℕ → List ℕ → Answered
 answered operation words line ws file =
     cond (eqb operation 1) (answering (fresh_refusal ws ∷ []) (fresh_book ws))
     (cond (eqb operation 8) (answering (statement_reply_numbers (statement_reply ws words.first)) ws)

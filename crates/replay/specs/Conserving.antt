@@ -6,10 +6,10 @@ use Rattle.book.specs.Calls.{fresh_refusal}
 use Rattle.conservation.specs.declared.Call.{Call}
 use Rattle.conservation.specs.Conserved.{Conserved}
 use Rattle.conservation.specs.Runs.{run_of}
-use Rattle.replay.specs.declared.cells.Cells.{Cells}
+use Rattle.workbook.specs.declared.cells.Cell.{Cell}
 use Rattle.replay.specs.declared.records.Words.{Words}
 use Rattle.replay.specs.Answers.{call_of}
-use Rattle.replay.specs.Cells.{cells_after}
+use Rattle.replay.specs.Cells.{listed_line, cells_after}
 use Rattle.replay.specs.Replay.{lent_words}
 use Rattle.replay.specs.Stages.{record_bytes, Stage, handled, records_in, replayed}
 use Rattle.replay.specs.Words.{words_of}
@@ -40,11 +40,11 @@ are_of_list [] = true
 are_of_list (words ∷ rest) = (is_call words || leaves_book words) && are_of_list rest
 
 -- the calls of the records, where these cells are listed before them
-abbrev pub calls_in : Cells → List Words → List Call
+abbrev pub calls_in : List Cell → List Words → List Call
 calls_in cells [] = []
 calls_in cells (words ∷ rest) =
     cond (is_call words)
-    (call_of words cells.line ∷ calls_in (cells_after words.operation words cells) rest)
+    (call_of words (listed_line cells) ∷ calls_in (cells_after words.operation words cells) rest)
     (calls_in (cells_after words.operation words cells) rest)
 
 -- a list of calls was played from a fresh book that these words became: no file is on its way, the lent words are the book of a run

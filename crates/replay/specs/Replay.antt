@@ -3,11 +3,11 @@ use Rattle.std.specs.Prelude.{ℕ, ◌+◌, min, Bool, true, false, cond, ◌&&�
 use Rattle.apportion.specs.Places.{sum_of}
 use Rattle.apportion.specs.Dividing.{refusal, shares_after}
 use Rattle.book_shares.specs.Previews.{preview_refusal, preview_pairs}
-use Rattle.replay.specs.declared.cells.Cells.{Cells}
+use Rattle.workbook.specs.declared.cells.Cell.{Cell}
 use Rattle.replay.specs.declared.records.Words.{Words}
 use Rattle.replay.specs.declared.state.State.{State}
 use Rattle.replay.specs.Answers.{Answered, answered}
-use Rattle.replay.specs.Cells.{no_cells, cells_after}
+use Rattle.replay.specs.Cells.{listed_line, cells_after}
 use Rattle.replay.specs.Text.{numbers_line}
 use Rattle.replay.specs.Waiting.{put}
 
@@ -19,12 +19,12 @@ array_length = 3000
 abbrev pub room : ℕ
 room = 300
 
--- what operations work on: the words of the book's array, and behind them the listed weights; how many weights are listed, the listed
--- cells, and how many words of the array are lent to calls; the bytes that wait to be written; and that no record was bad
+-- what operations work on: the words of the book's array, the listed weights, the listed cells, and how many words of the array are lent
+-- to calls; the bytes that wait to be written; and that no record was bad
 pub record Machine : Type 0 where
   pub memory : List ℕ
-  pub count : ℕ
-  pub cells : Cells
+  pub weights : List ℕ
+  pub cells : List Cell
   pub lent : ℕ
   pub waiting : List ℕ
   pub good : Bool
@@ -34,8 +34,8 @@ abbrev pub machine_of : State → Machine
 machine_of state =
     record {
       memory = state.memory;
-      count = state.count;
-      cells = state.cells;
+      weights = state.weights.items;
+      cells = state.cells.items;
       lent = state.lent;
       waiting = state.output.waiting.items;
       good = state.good;
@@ -43,32 +43,32 @@ machine_of state =
 
 -- before the first record
 abbrev pub started : Machine
-started = record { memory = replicate (array_length + room) 0; count = 0; cells = no_cells; lent = array_length; waiting = []; good = true }
+started = record { memory = replicate array_length 0; weights = []; cells = []; lent = array_length; waiting = []; good = true }
 
 -- a machine with one thing set anew
 abbrev pub with_memory : List ℕ → Machine → Machine
 with_memory memory machine =
-    record { memory = memory; count = machine.count; cells = machine.cells; lent = machine.lent; waiting = machine.waiting; good = machine.good }
+    record { memory = memory; weights = machine.weights; cells = machine.cells; lent = machine.lent; waiting = machine.waiting; good = machine.good }
 
-abbrev pub with_count : ℕ → Machine → Machine
-with_count count machine =
-    record { memory = machine.memory; count = count; cells = machine.cells; lent = machine.lent; waiting = machine.waiting; good = machine.good }
+abbrev pub with_weights : List ℕ → Machine → Machine
+with_weights weights machine =
+    record { memory = machine.memory; weights = weights; cells = machine.cells; lent = machine.lent; waiting = machine.waiting; good = machine.good }
 
-abbrev pub with_cells : Cells → Machine → Machine
+abbrev pub with_cells : List Cell → Machine → Machine
 with_cells cells machine =
-    record { memory = machine.memory; count = machine.count; cells = cells; lent = machine.lent; waiting = machine.waiting; good = machine.good }
+    record { memory = machine.memory; weights = machine.weights; cells = cells; lent = machine.lent; waiting = machine.waiting; good = machine.good }
 
 abbrev pub with_lent : ℕ → Machine → Machine
 with_lent lent machine =
-    record { memory = machine.memory; count = machine.count; cells = machine.cells; lent = lent; waiting = machine.waiting; good = machine.good }
+    record { memory = machine.memory; weights = machine.weights; cells = machine.cells; lent = lent; waiting = machine.waiting; good = machine.good }
 
 abbrev pub with_waiting : List ℕ → Machine → Machine
 with_waiting waiting machine =
-    record { memory = machine.memory; count = machine.count; cells = machine.cells; lent = machine.lent; waiting = waiting; good = machine.good }
+    record { memory = machine.memory; weights = machine.weights; cells = machine.cells; lent = machine.lent; waiting = waiting; good = machine.good }
 
 -- a bad record changes nothing else
 abbrev pub bad : Machine → Machine
-bad machine = record { memory = machine.memory; count = machine.count; cells = machine.cells; lent = machine.lent; waiting = machine.waiting; good = false }
+bad machine = record { memory = machine.memory; weights = machine.weights; cells = machine.cells; lent = machine.lent; waiting = machine.waiting; good = false }
 
 -- a text is put behind the waiting bytes
 abbrev pub with_text : List ℕ → Machine → Machine
@@ -88,27 +88,23 @@ returned answer machine =
 
 -- operations 1 to 9, 15 and 17: a call on the lent words, 17 with the line of the listed cells, or a load of the file
 unfoldable pub called : ℕ → Words → List ℕ → Machine → Machine
-called operation words file machine = returned (answered operation words machine.cells.line (lent_words machine) file) machine
+called operation words file machine = returned (answered operation words (listed_line machine.cells) (lent_words machine) file) machine
 
 -- the numbers of a division over the weights into shares: the refusal number, and the shares after the call
 abbrev pub division : ℕ → List ℕ → List ℕ → List ℕ
 division pool weights shares =
     refusal pool (length weights) (length shares) (sum_of weights) ∷ shares_after pool weights shares
 
--- operation 10: a division over the listed weights, of which there are at most `room`, into `size` shares, each of which is 7 before
+-- operation 10: a division over the listed weights into `size` shares, each of which is 7 before; the list is emptied
 unfoldable pub division_done : ℕ → ℕ → Machine → Machine
 division_done pool size machine =
     cond (leb size room)
-    (with_count 0
-    (with_text (numbers_line (division pool (take (min machine.count room) (drop array_length machine.memory)) (replicate size 7))) machine))
+    (with_weights [] (with_text (numbers_line (division pool machine.weights (replicate size 7))) machine))
     (bad machine)
 
 -- operation 11: a weight is listed, where there is room
 abbrev pub listed : ℕ → Machine → Machine
-listed weight machine =
-    cond (ltb machine.count room)
-    (with_count (machine.count + 1) (with_memory (set machine.memory (array_length + machine.count) weight) machine))
-    (bad machine)
+listed weight machine = cond (ltb (length machine.weights) room) (with_weights (machine.weights ++ (weight ∷ [])) machine) (bad machine)
 
 -- operation 12: a word of the array is written
 abbrev pub poked : ℕ → ℕ → Machine → Machine
@@ -134,11 +130,11 @@ dumped start count machine =
 -- operation 16: a cell is listed, where its form is one and there is room
 unfoldable pub cell_listed : Words → Machine → Machine
 cell_listed words machine =
-    cond (ltb 2 words.first || ltb 2 machine.cells.count) (bad machine) (with_cells (cells_after 16 words machine.cells) machine)
+    cond (ltb 2 words.first || ltb 2 (length machine.cells)) (bad machine) (with_cells (cells_after 16 words machine.cells) machine)
 
 -- operation 17: a line of the listed cells, where they are three, is posted, and the list is emptied
 unfoldable pub line_done : Words → List ℕ → Machine → Machine
-line_done words file machine = cond (eqb machine.cells.count 3) (with_cells (cells_after 17 words machine.cells) (called 17 words file machine)) (bad machine)
+line_done words file machine = cond (eqb (length machine.cells) 3) (with_cells (cells_after 17 words machine.cells) (called 17 words file machine)) (bad machine)
 
 -- the longest slice of pairs
 abbrev pub pair_room : ℕ

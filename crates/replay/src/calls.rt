@@ -4,14 +4,15 @@ ghost use Rattle.conservation.specs.Runs.{step_reply_in};
 ghost use Rattle.replay.specs.Inner.Operations.{fresh_made, made, stated, intensity_told, line_made};
 ghost use Rattle.replay.specs.Stages.{stage_of, on_machine};
 
-use crate::cells;
 use crate::state::State;
 use apportion::{Refusal, refusal_number};
 use book::LineArguments;
 use conservation::Call;
+use workbook::Line;
 
 impl State {
     // Operation 1: makes an empty book.
+    #[tactic(auto, unfolding(crate::specs::Text::numbers_line))]
     pub fn fresh(&mut self)
         ensures { stage_of self.new ≡ on_machine fresh_made (stage_of self.old) }
     {
@@ -21,6 +22,7 @@ impl State {
     }
 
     // Operations 2 to 7, and 17 with its line. Strike and close answer the refusal number alone.
+    #[tactic(auto, unfolding(crate::specs::Text::numbers_line))]
     pub fn make(&mut self, call: Call)
         ensures { stage_of self.new ≡ on_machine (made call) (stage_of self.old) }
     {
@@ -34,13 +36,14 @@ impl State {
     }
 
     // Operation 8: the statement of a chain.
+    #[tactic(auto, unfolding(crate::specs::Text::numbers_line))]
     pub fn statement(&mut self, chain: u64)
         ensures { stage_of self.new ≡ on_machine (stated chain) (stage_of self.old) }
     {
         let lent = self.lent_count();
         match book::statement(&self.memory[..lent], chain) {
             Ok(s) => {
-                let numbers = [s.elements, s.waiting, s.operation, s.provision, s.total];
+                let numbers: [u64; 5] = s.into();
                 self.output.print_line(0, &numbers);
             }
             Err(refusal) => self.output.print_line(refusal.into(), &[0; 5]),
@@ -48,6 +51,7 @@ impl State {
     }
 
     // Operation 9: the intensities of a code in a category.
+    #[tactic(auto, unfolding(crate::specs::Text::numbers_line))]
     pub fn intensity(&mut self, category: u64, code: u64)
         ensures { stage_of self.new ≡ on_machine (intensity_told category code) (stage_of self.old) }
     {
@@ -62,17 +66,21 @@ impl State {
     pub fn line(&mut self, category: u64, group: u64)
         ensures { stage_of self.new ≡ on_machine (line_made category group) (stage_of self.old) }
     {
-        if self.cells.count != 3 {
+        let &[quantity, operation_factor, provision_factor] = self.cells.as_slice() else {
             self.set_bad();
             return;
-        }
-        let line = self.cells.line;
+        };
+        let line = Line {
+            quantity,
+            operation_factor,
+            provision_factor,
+        };
         self.make(Call::Line(LineArguments {
             category,
             group,
             line,
         }));
-        self.cells = cells::none();
+        self.cells.clear();
     }
 }
 
@@ -80,8 +88,5 @@ impl State {
 fn record_number(answer: Result<Option<u64>, Refusal>) -> u64
     ensures { result ≡ (step_reply_in answer).number }
 {
-    match answer {
-        Ok(Some(number)) => number,
-        _ => 0,
-    }
+    answer.ok().flatten().unwrap_or_default()
 }

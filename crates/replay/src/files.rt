@@ -40,6 +40,7 @@ impl State {
     }
 
     // Loads the file into the lent words, once no byte of it is missing, and prints the answer.
+    #[tactic(auto, unfolding(crate::specs::Text::numbers_line))]
     pub fn load(&mut self)
         ensures { stage_of self.new ≡ load_due (stage_of self.old) }
     {
@@ -52,12 +53,12 @@ impl State {
     }
 }
 
-// Loads the file into the first `lent` of these words. (A part of one field is not lent while another field is, so the part is taken
-// here.)
+// Loads the file into the first `lent` of these words. Tried within `load`, and the proof didn't close: beside a field that is
+// lent, a part of another that is lent to be written loses what is known of it.
 fn load_into(words: &mut [u64], lent: usize, file: &ArrayVec<u8, ROOM>) -> Numbers
     requires { lent ≤ length words.old }
     ensures value { result ≡ load_numbers (take lent words.old) file.now.items }
     ensures words_after { words.new ≡ load_book (take lent words.old) file.now.items ++ drop lent words.old }
 {
-    book_file::numbers_of(book_file::load(&mut words[..lent], file.as_slice()))
+    book_file::load(&mut words[..lent], file.as_slice()).into()
 }

@@ -1,11 +1,8 @@
-// Operations 10 to 14: the words of the book's array, lent or not, and the weights that are listed behind them.
-ghost use Rattle.std.specs.Prelude.{◌≡◌, ◌+◌, ◌≤◌, length, take, drop};
+// Operations 10 to 14: the words of the book's array, lent or not, and the weights that are listed.
+ghost use Rattle.std.specs.Prelude.{◌≡◌};
 ghost use Rattle.replay.specs.Replay.{lent_count, machine_of, division_done, listed, poked, lent_anew, dumped};
-ghost use Rattle.replay.specs.Text.{numbers_line};
-ghost use Rattle.replay.specs.Waiting.{put};
 ghost use Rattle.replay.specs.Stages.{stage_of, on_machine};
 
-use crate::output::Output;
 use crate::state::State;
 
 // The words of the array.
@@ -23,6 +20,7 @@ impl State {
     }
 
     // Operation 10: divides the pool over the listed weights into so many shares, prints the answer and empties the list.
+    #[tactic(auto, unfolding(crate::specs::Replay::division_done, crate::specs::Text::numbers_line))]
     pub fn divide(&mut self, pool: u64, size: u64)
         ensures { stage_of self.new ≡ on_machine (division_done pool size) (stage_of self.old) }
     {
@@ -31,14 +29,10 @@ impl State {
             self.set_bad();
             return;
         }
-        let end = LENGTH + self.count.min(ROOM);
-        // The call is lent a slice of the asked length, and sevens show what it left.
-        let mut sevens = [7u64; ROOM];
-        let shares = &mut sevens[..size];
-        let answer = apportion::divide(pool, &self.memory[LENGTH..end], shares);
-        self.count = 0;
+        let weights = self.weights.as_slice();
         self.output
-            .print_line(apportion::refusal_number(answer), shares);
+            .print_call(size, |shares| apportion::divide(pool, weights, shares));
+        self.weights.clear();
     }
 
     // Operation 11: lists a weight, where there is room.
@@ -46,10 +40,7 @@ impl State {
         ensures stage_after { stage_of self.new ≡ on_machine (listed weight) (stage_of self.old) }
         ensures ok_after { self.new.output.ok ≡ self.old.output.ok }
     {
-        if self.count < ROOM {
-            self.memory[LENGTH + self.count] = weight;
-            self.count += 1;
-        } else {
+        if self.weights.try_push(weight).is_err() {
             self.set_bad();
         }
     }
@@ -81,23 +72,17 @@ impl State {
     }
 
     // Operation 14: prints `count` words, those from `start` on.
+    #[tactic(auto, unfolding(crate::specs::Replay::dumped))]
     pub fn dump(&mut self, start: u64, count: u64)
         ensures { stage_of self.new ≡ on_machine (dumped start count) (stage_of self.old) }
     {
         let start = start as usize;
         let count = count as usize;
         if start <= LENGTH && count <= LENGTH - start {
-            print_words(&self.memory, start, count, &mut self.output);
+            let words = &self.memory[..];
+            self.output.print(&words[start..start + count]);
         } else {
             self.set_bad();
         }
     }
-}
-
-// Prints `count` of these words, those from `start` on. (A part of one field is not lent while another field is, so the part is taken here.)
-fn print_words(words: &[u64], start: usize, count: usize, output: &mut Output)
-    requires { start + count ≤ length words.now }
-    ensures { output.new.waiting.items ≡ put output.old.waiting.items (numbers_line (take count (drop start words.now))) }
-{
-    output.print(&words[start..start + count]);
 }

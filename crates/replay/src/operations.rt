@@ -4,9 +4,9 @@ ghost use Rattle.replay.specs.Answers.{post_of, enrol_of, quote_of};
 ghost use Rattle.replay.specs.Stages.{stage_of, handled};
 ghost use Rattle.replay.specs.Inner.Operations.{AsksFor, operation_done};
 
-use crate::records::Words;
+use crate::records;
+use crate::records::{BadRecord, Words};
 use crate::state::State;
-use crate::{cells, records};
 use book::{EnrolArguments, PostArguments, QuoteArguments};
 use conservation::Call;
 use workbook::Cell;
@@ -42,74 +42,86 @@ pub enum Operation {
     Preview(u64, u64),
 }
 
-// The operation that the words of a record ask for, where there is one.
-fn operation_of(words: Words) -> Option<Operation>
-    ensures { AsksFor words result }
-{
-    Some(match words.operation {
-        1 => Operation::Fresh,
-        2 => Operation::Make(Call::Open(words.first)),
-        3 => Operation::Make(Call::Post(post_of(words))),
-        4 => Operation::Make(Call::Strike(words.first)),
-        5 => Operation::Make(Call::Enrol(enrol_of(words))),
-        6 => Operation::Make(Call::Quote(quote_of(words))),
-        7 => Operation::Make(Call::Close(words.first)),
-        8 => Operation::Statement(words.first),
-        9 => Operation::Intensity(words.first, words.second),
-        10 => Operation::Divide(words.first, words.second),
-        11 => Operation::Weight(words.first),
-        12 => Operation::Poke(words.first, words.second),
-        13 => Operation::Lend(words.first),
-        14 => Operation::Dump(words.first, words.second),
-        15 => Operation::Load(words.first),
-        16 => Operation::List(cells::cell_of(words)?),
-        17 => Operation::Line(words.first, words.second),
-        18 => Operation::Preview(words.first, words.second),
-        _ => return None,
-    })
+// The operation that the words of a record ask for.
+impl TryFrom<Words> for Operation {
+    type Error = BadRecord;
+
+    ghost try_from_gives = { AsksFor };
+
+    #[tactic(auto, unfolding(crate::specs::Inner::Operations::AsksFor, crate::specs::Inner::Operations::operation_done, crate::specs::Stages::operated, crate::specs::Stages::due, crate::specs::Replay::performed, crate::specs::Replay::called, crate::specs::Replay::changed, crate::specs::Answers::answered, crate::specs::Answers::call_of, crate::specs::Replay::line_done, crate::specs::Replay::cell_listed))]
+    fn try_from(words: Words) -> Result<Operation, BadRecord> {
+        Ok(match words.operation {
+            1 => Operation::Fresh,
+            2 => Operation::Make(Call::Open(words.first)),
+            3 => Operation::Make(Call::Post(words.into())),
+            4 => Operation::Make(Call::Strike(words.first)),
+            5 => Operation::Make(Call::Enrol(words.into())),
+            6 => Operation::Make(Call::Quote(words.into())),
+            7 => Operation::Make(Call::Close(words.first)),
+            8 => Operation::Statement(words.first),
+            9 => Operation::Intensity(words.first, words.second),
+            10 => Operation::Divide(words.first, words.second),
+            11 => Operation::Weight(words.first),
+            12 => Operation::Poke(words.first, words.second),
+            13 => Operation::Lend(words.first),
+            14 => Operation::Dump(words.first, words.second),
+            15 => Operation::Load(words.first),
+            16 => Operation::List(words.try_into()?),
+            17 => Operation::Line(words.first, words.second),
+            18 => Operation::Preview(words.first, words.second),
+            _ => return Err(BadRecord),
+        })
+    }
 }
 
 // The arguments of a post, an enrolment and a quote.
-fn post_of(words: Words) -> PostArguments
-    ensures { result ≡ post_of words }
-{
-    PostArguments {
-        category: words.first,
-        group: words.second,
-        quantity: words.third,
-        operation_factor: words.fourth,
-        provision_factor: words.fifth,
+impl From<Words> for PostArguments {
+    ghost from_gives = { λ words arguments. arguments ≡ post_of words };
+
+    fn from(words: Words) -> PostArguments {
+        PostArguments {
+            category: words.first,
+            group: words.second,
+            quantity: words.third,
+            operation_factor: words.fourth,
+            provision_factor: words.fifth,
+        }
     }
 }
 
-fn enrol_of(words: Words) -> EnrolArguments
-    ensures { result ≡ enrol_of words }
-{
-    EnrolArguments {
-        category: words.first,
-        chain: words.second,
-        code: words.third,
-        amount: words.fourth,
-        distance: words.fifth,
-        kg_per_head: words.sixth,
+impl From<Words> for EnrolArguments {
+    ghost from_gives = { λ words arguments. arguments ≡ enrol_of words };
+
+    fn from(words: Words) -> EnrolArguments {
+        EnrolArguments {
+            category: words.first,
+            chain: words.second,
+            code: words.third,
+            amount: words.fourth,
+            distance: words.fifth,
+            kg_per_head: words.sixth,
+        }
     }
 }
 
-fn quote_of(words: Words) -> QuoteArguments
-    ensures { result ≡ quote_of words }
-{
-    QuoteArguments {
-        chain: words.first,
-        adjust: words.second,
-        mass: words.third,
-        distance: words.fourth,
-        operation_intensity: words.fifth,
-        provision_intensity: words.sixth,
+impl From<Words> for QuoteArguments {
+    ghost from_gives = { λ words arguments. arguments ≡ quote_of words };
+
+    fn from(words: Words) -> QuoteArguments {
+        QuoteArguments {
+            chain: words.first,
+            adjust: words.second,
+            mass: words.third,
+            distance: words.fourth,
+            operation_intensity: words.fifth,
+            provision_intensity: words.sixth,
+        }
     }
 }
 
 impl State {
     // Does what the record at the start of the bytes asks for. One that is cut short is bad.
+    #[tactic(auto, unfolding(crate::specs::Stages::handled, crate::specs::Stages::due, crate::specs::Replay::performed, crate::specs::Replay::called, crate::specs::Answers::answered, crate::specs::Inner::Operations::AsksFor))]
     pub fn handle(&mut self, bytes: &[u8])
         ensures { stage_of self.new ≡ handled bytes.now (stage_of self.old) }
     {
@@ -119,14 +131,14 @@ impl State {
             self.take(bytes);
             self.load();
         } else {
-            match operation_of(records::read(bytes)) {
-                Some(operation) => self.perform(operation),
-                None => self.set_bad(),
+            match Operation::try_from(records::read(bytes)) {
+                Ok(operation) => self.perform(operation),
+                Err(BadRecord) => self.set_bad(),
             }
         }
     }
 
-    // Performs an operation.
+    // Performs an operation: each is another method with other numbers.
     #[tactic(auto, unfolding(crate::specs::Inner::Operations::operation_done))]
     fn perform(&mut self, operation: Operation)
         ensures { stage_of self.new ≡ operation_done operation (stage_of self.old) }

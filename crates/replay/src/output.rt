@@ -1,9 +1,15 @@
 // The output: bytes that wait to be written to standard output.
-ghost use Rattle.std.specs.Prelude.{◌≡◌, true, false, []};
+ghost use Rattle.std.specs.Prelude.{◌≡◌, ◌≤◌, ℕ, true, false, List, [], ◌∷◌, replicate, Result, ⊤};
+ghost use Rattle.std.specs.Fn.{FnOnceReturnsAtMut};
+ghost use Rattle.apportion.specs.Refusals.{refusal_in};
+ghost use Rattle.apportion.specs.declared.refusing.Refusal.{Refusal};
 ghost use Rattle.report.specs.Text.{decimal, line};
+ghost use Rattle.replay.specs.Replay.{pair_room};
 ghost use Rattle.replay.specs.Text.{numbers_line};
 ghost use Rattle.replay.specs.Waiting.{put_byte, put};
 
+use crate::previews;
+use apportion::Refusal;
 use arrayvec::ArrayVec;
 use std::io::{Stdout, Write};
 
@@ -42,6 +48,7 @@ impl Output {
     }
 
     // Puts a byte. Where the bytes that wait fill their room, they are written first.
+    #[tactic(auto, unfolding(crate::specs::Waiting::put_byte))]
     fn put_byte(&mut self, byte: u8)
         ensures { self.new.waiting.items ≡ put_byte self.old.waiting.items byte }
     {
@@ -66,11 +73,12 @@ impl Output {
     {
         // put_number writes into a lent slice, so the digits are an array that is cut.
         let mut digits = [0u8; 20];
-        let count = report::put_number(number, &mut digits, 0);
+        let count = report::put_number(number, &mut digits);
         self.put_bytes(&digits[..count]);
     }
 
-    // Prints a line of numbers, with single spaces between: the first, and those behind it.
+    // Prints a line of numbers, with single spaces between: the first, and those behind it. put_line of report asks for room for a
+    // whole line; here a line may be longer than the room, and what waits is written where it fills.
     pub fn print_line(&mut self, first: u64, rest: &[u64])
         ensures { self.new.waiting.items ≡ put self.old.waiting.items (line first rest.now) }
     {
@@ -82,7 +90,21 @@ impl Output {
         self.put_byte(b'\n');
     }
 
+    // Lends a call a slice of so many words, each of which is 7, and prints its refusal number and what it left there.
+    pub fn print_call<F: FnOnce(&mut [u64]) -> Result<(), Refusal>>(&mut self, size: usize, call: F)
+        requires room { size ≤ pair_room }
+        requires callable { F.IsAlwaysCallable call }
+        ensures { (answer : Result ⊤ Refusal) × (left : List ℕ) × FnOnceReturnsAtMut F.FnOnce call (replicate size 7) answer left
+            × (self.new.waiting.items ≡ put self.old.waiting.items (numbers_line (refusal_in answer ∷ left))) }
+    {
+        let mut sevens = [7u64; previews::PAIR_ROOM];
+        let words = &mut sevens[..size];
+        let answer = call(words);
+        self.print_line(apportion::refusal_number(answer), words);
+    }
+
     // Prints a line of numbers of which there may be none.
+    #[tactic(auto, unfolding(crate::specs::Text::numbers_line))]
     pub fn print(&mut self, numbers: &[u64])
         ensures { self.new.waiting.items ≡ put self.old.waiting.items (numbers_line numbers.now) }
     {

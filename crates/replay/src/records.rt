@@ -20,7 +20,11 @@ pub struct Words {
     pub seventh: u64,
 }
 
-// The eight words that 64 bytes spell, each the least significant byte first.
+// The words ask for nothing that there is: the record is bad.
+#[derive(Clone, Copy)]
+pub struct BadRecord;
+
+// The eight words that 64 bytes spell, each the least significant byte first. By name, as the operations take them.
 pub fn read(bytes: &[u8]) -> Words
     ensures { result ≡ words_of bytes.now }
 {

@@ -6,6 +6,7 @@ use mathlib.Core.List.{List, [], ◌∷◌}
 use mathlib.Core.Path.{◌≡◌, refl, sym, ◌∙◌, ap}
 use borrow.Author.Tests.{le-leb}
 use lib.Dec.{leb}
+use Rattle.std.proofs.lemmas.Bool.{and_from}
 use Rattle.apportion.specs.Places.{sum_below, one_if}
 use Rattle.apportion.proofs.Sums.{sum-cong, sum-add}
 use Rattle.book.specs.ClassTotal.{over_elements, class_total}
@@ -16,7 +17,6 @@ use Rattle.book_words.specs.Book.{elements, element_at}
 use Rattle.book_words.specs.Measures.{most_chains}
 use Rattle.book_words.specs.Soundness.{sound}
 use Rattle.book_words.specs.declared.records.Element.{Element}
-use Rattle.book_words.proofs.Booleans.{and_both}
 use Rattle.book_words.proofs.ShareSums.{sum-by-chain}
 use Rattle.report.specs.Sheet.{is_used, statement_numbers, column_sum, column_sums}
 use Rattle.report.proofs.MetChains.{unused-none}
@@ -95,7 +95,7 @@ module _ (ws : List ℕ) (fine : sound ws ≡ true) where
   -- an unused chain has zeros in its statement
   unused-zeros : (j : ℕ) → j < most_chains → is_used ws (j + 1) ≡ false → statement_of ws (j + 1) ≡ zeros_beside 0
   unused-zeros j h unused =
-      let known = and_both (leb 1 (j + 1)) (leb (j + 1) most_chains) (le-leb 1 (j + 1) (omega arith)) (le-leb (j + 1) most_chains (omega arith)) in
+      let known = and_from (leb 1 (j + 1)) (leb (j + 1) most_chains) (le-leb 1 (j + 1) (omega arith)) (le-leb (j + 1) most_chains (omega arith)) in
       sym (statement-accepted ws (j + 1) fine known) ∙ statement-unused ws (j + 1) fine known (unused-none ws (j + 1) unused)
 
   -- so a column over the used chains is that over all chains, and the sum over all elements

@@ -9,9 +9,9 @@ use mathlib.Core.List.{[], ◌∷◌, ◌++◌}
 use borrow.Author.Tests.{lt-ltb, le-ltb}
 use lib.Dec.{ltb}
 use lib.ListN.{length, length-append}
+use Rattle.std.proofs.lemmas.Bool.{cases_lt}
 use Rattle.std.specs.Fmt as fmt
 use Rattle.std.proofs.lemmas.Fmt.{AppendsLastDigit, decimal_from_appends, decimal_digit, decimal_step, decimal_nonempty, length-decimal-le}
-use Rattle.apportion.proofs.Sums.{below_or_not}
 use Rattle.report.specs.Text.{digit, decimal_within, decimal}
 
 -- the digits are those that the library writes
@@ -49,7 +49,7 @@ digits_by_power k n {m} fits is least most =
     (⊎_elim
     (λ (none : n < 1). omega (arith, counted, ap length (decimal_digit n (omega arith)), ap length (decimal_digit m (omega arith))))
     (λ (some : 1 ≤ n). let same : m ≡ n = omega arith in rw same at counted)
-    (below_or_not n 1))
+    (cases_lt n 1))
 
 -- any number has at most 20
 fuel-most : (most n : ℕ) → length (decimal_within most n) ≤ most

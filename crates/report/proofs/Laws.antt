@@ -1,7 +1,6 @@
 -- The laws of a sheet, for the crates above, and the law of its table: after the first k elements it holds for every chain what the
 -- walk of the chain's statement holds (`table-holds`). Assumes nothing.
-use Prim.Native.Nat.{ℕ, ◌+◌, ◌≤◌}
-use native.Mathlib.Nat.{zero-add}
+use Prim.Native.Nat.{ℕ, ◌≤◌}
 use native.Mathlib.Omega.{arith}
 use mathlib.Core.Bool.{Bool, true, false, cond}
 use mathlib.Core.List.{List, ◌++◌}
@@ -9,18 +8,18 @@ use mathlib.Core.Path.{◌≡◌, refl, sym, ◌∙◌, ap}
 use borrow.Author.Tests.{le-leb}
 use lib.Dec.{leb}
 use lib.ListN.{length, drop}
-use lib.Seq.{sets, sets-eq}
 use Rattle.apportion.specs.Grounds.{accepted}
 use Rattle.book_words.specs.Soundness.{sound}
 use Rattle.std.proofs.Common.{Ok, Err, not}
 use Rattle.apportion.specs.declared.refusing.Refusal.TheVariants.{Unfit}
 use Rattle.report.specs.declared.printing.Unprinted.TheVariants.{TooSmall, Refused}
-use Rattle.report.specs.Printing.{Printed, printed_numbers, answer_for, numbers_for, buffer_with}
+use Rattle.report.specs.Printing.{Printed, Put, printed_numbers, answer_for, numbers_for, buffer_with}
 use Rattle.report.specs.Sheet.{all_word, all_line, sheet_text, column_sums, sheet_refusal, sheet_answer, sheet_numbers, sheet_buffer, sheet_room}
 use Rattle.report.specs.Text.{word_line, last_line_of}
 pub use Rattle.report.proofs.Columns.{class-total-of-lines}
 pub use Rattle.report.proofs.LastLine.{sheet-last-line}
 pub use Rattle.report.proofs.Lines.{sheet-fits, refused-fits}
+pub use Rattle.report.proofs.Puts.{Front, front_of}
 pub use Rattle.report.proofs.TableRows.{table-holds}
 
 -- what the answer for a text says: its number is 0
@@ -88,18 +87,17 @@ pub fitting-buffer : (text buffer : List ℕ) → length text ≤ length buffer 
 unfolding buffer_with
 fitting-buffer text buffer h = rw (le-leb (length text) (length buffer) h)
 
--- so where it is stored in the buffer itself
-pub stored-printed : (text buffer : List ℕ) {after : List ℕ} {count : ℕ} → length text ≤ length buffer → count ≡ length text → after ≡ sets buffer 0 text
+-- so where it is put into the buffer itself
+pub stored-printed : (text buffer : List ℕ) {after : List ℕ} {count : ℕ} → length text ≤ length buffer → Put text buffer after count
     → (Ok count ≡ answer_for text (length buffer)) × (after ≡ buffer_with text buffer)
-stored-printed text buffer h counted stored =
-    let fits : 0 + length text ≤ length buffer = omega (arith, h) in (
-      ap (λ (n : ℕ). answer_of n) counted ∙ sym (fitting-written text (length buffer) h),
-      stored ∙ (rw zero-add at (sets-eq text buffer 0 fits)) ∙ sym (fitting-buffer text buffer h),
-    )
+stored-printed text buffer h put = (
+  ap (λ (n : ℕ). answer_of n) put.counted ∙ sym (fitting-written text (length buffer) h),
+  put.stored ∙ sym (fitting-buffer text buffer h),
+)
 
 -- and so is a sheet
-pub sheet-stored : (ws buffer : List ℕ) {count : ℕ} {after : List ℕ} → sound ws ≡ true → sheet_room ≤ length buffer → count ≡ length (sheet_text ws)
-    → after ≡ sets buffer 0 (sheet_text ws)
+pub sheet-stored : (ws buffer : List ℕ) {count : ℕ} {after : List ℕ} → sound ws ≡ true → sheet_room ≤ length buffer
+    → Put (sheet_text ws) buffer after count
     → (Ok count ≡ sheet_answer ws (length buffer)) × ((printed_numbers (Ok count) ≡ sheet_numbers ws (length buffer)) × (after ≡ sheet_buffer ws buffer))
-sheet-stored ws buffer fine room counted stored =
-    sheet-given ws buffer fine (stored-printed (sheet_text ws) buffer (omega (arith, room, sheet-fits ws fine)) counted stored)
+sheet-stored ws buffer fine room put =
+    sheet-given ws buffer fine (stored-printed (sheet_text ws) buffer (omega (arith, room, sheet-fits ws fine)) put)

@@ -1,6 +1,6 @@
 -- What the proofs of this crate share, and the laws of a sheet.
--- bytes stored one after the other
-mod Stores
+-- texts put one behind the other
+mod Puts
 -- a number's digits
 pub mod Decimals
 -- chains that are met

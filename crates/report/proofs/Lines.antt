@@ -1,15 +1,14 @@
 -- Lines of numbers, and the lines of a sheet. Assumes nothing.
-use Prim.Native.Nat.{ℕ, zero, suc, ◌+◌, ◌*◌, ◌≤◌, ◌<◌}
+use Prim.Native.Nat.{ℕ, zero, suc, ◌+◌, ◌*◌, ◌≤◌}
 use native.Mathlib.Nat.{le_refl}
 use native.Mathlib.Numerals.{add-one}
 use native.Mathlib.Omega.{arith}
 use mathlib.Core.Bool.{Bool, true, false, cond}
-use mathlib.Core.List.{List, [], ◌∷◌, ◌++◌, append-nil, append_assoc}
-use mathlib.Core.Path.{◌≡◌, refl, sym, ◌∙◌, ap}
+use mathlib.Core.List.{List, [], ◌∷◌, ◌++◌, append-nil}
+use mathlib.Core.Path.{◌≡◌, refl}
 use borrow.Author.Tests.{ltb-true}
 use lib.Dec.{ltb}
-use lib.ListN.{length, get_or, drop, set, length-append}
-use lib.Seq.{sets, drop-cons}
+use lib.ListN.{length, length-append}
 use Rattle.apportion.specs.Places.{sum_below}
 use Rattle.book.specs.ClassTotal.{class_total}
 use Rattle.book.specs.Statements.{of_chain, elements_over, statement_of}
@@ -18,12 +17,11 @@ use Rattle.book.proofs.Laws.{StatementWithin, statement-within, class-total-with
 use Rattle.book_words.specs.Book.{elements}
 use Rattle.book_words.specs.Measures.{most_chains}
 use Rattle.book_words.specs.Soundness.{sound}
-use Rattle.report.specs.Text.{decimal, spaced, line_end, line, word_line}
+use Rattle.report.specs.Text.{decimal, line_end, line, word_line}
 use Rattle.report.specs.Sheet.{heading, is_used, statement_numbers, chain_line, lines_to, chain_lines, all_word, all_line, sheet_text, sheet_room}
 use Rattle.report.specs.Sheet.{refused_word, refused_text}
 use Rattle.report.specs.Inner.Steps.{refused_room}
 use Rattle.report.proofs.Decimals.{digits-most, digits-few}
-use Rattle.report.proofs.Stores.{sets_append}
 use Rattle.report.proofs.Columns.{elements-by-chain}
 
 -- the most bytes of the end of a line with a statement's numbers: 3, 3, 19, 19 and 19 digits, five spaces and the newline
@@ -36,31 +34,6 @@ line_room = 5 + end_room
 
 abbrev all_room : ℕ
 all_room = 3 + end_room
-
--- the end of a line whose first i numbers are stored: the others, each behind a space, and the newline
-abbrev pub rest_of : List ℕ → ℕ → List ℕ
-rest_of numbers i = line_end (drop i numbers)
-
--- one number more
-pub rest-next : (numbers : List ℕ) (i : ℕ) → i < length numbers
-    → rest_of numbers i ≡ (32 ∷ decimal (get_or numbers i 0)) ++ rest_of numbers (i + 1)
-rest-next numbers i h =
-    rw (add-one, drop-cons numbers i 0) (append_assoc (32 ∷ decimal (get_or numbers i 0)) (spaced (drop (suc i) numbers)) (10 ∷ []))
-
--- so its bytes and its place: what is stored behind them makes the line whole
-pub rest-stored : (numbers out : List ℕ) (end i : ℕ) → i < length numbers
-    → sets (sets (set out end 32) (end + 1) (decimal (get_or numbers i 0))) (end + 1 + length (decimal (get_or numbers i 0))) (rest_of numbers (i + 1))
-    ≡ sets out end (rest_of numbers i)
-rest-stored numbers out end i h =
-    rw (rest-next numbers i h, add-one)
-    (sym (sets_append (decimal (get_or numbers i 0)) (rest_of numbers (i + 1)) (set out end 32) (suc end)))
-
-pub rest-length : (numbers : List ℕ) (i : ℕ) → i < length numbers
-    → length (rest_of numbers i) ≡ 1 + length (decimal (get_or numbers i 0)) + length (rest_of numbers (i + 1))
-rest-length numbers i h =
-    ap length (rest-next numbers i h)
-    ∙ length-append (32 ∷ decimal (get_or numbers i 0)) (rest_of numbers (i + 1))
-    ∙ omega arith
 
 -- the end of a line with the five numbers of a statement, and with the three of a refusal, by the digits of each
 end-of-five : (a b c d e : ℕ) → length (line_end (a ∷ b ∷ c ∷ d ∷ e ∷ []))

@@ -6,17 +6,16 @@ use mathlib.Core.List.{List, [], ◌∷◌, ◌++◌, append-nil}
 use mathlib.Core.Path.{◌≡◌, refl, ◌∙◌, ap}
 use Rattle.std.proofs.lemmas.Grind.{flat_map-append}
 use Rattle.std.proofs.lemmas.List.Elements.{All-nil, All-append}
-use Rattle.book.specs.Inner.Chains.{of_chains}
 use Rattle.book.specs.Statements.{of_chain}
-use Rattle.book.specs.Walk.{held_after, with_total}
+use Rattle.book.specs.ClassTotal.{class_total}
+use Rattle.book.specs.Walk.{HeldFits}
 use Rattle.book.specs.Statements.{StatementReply}
-use Rattle.book.specs.declared.walks.Held.{Held}
-use Rattle.book.proofs.Laws.{held_fits, held-statement, held-total}
+use Rattle.book.proofs.Laws.{held-fit, held-statement}
 use Rattle.book_words.specs.Book.{elements}
 use Rattle.book_words.specs.Measures.{most_chains}
 use Rattle.book_words.specs.Soundness.{sound}
 use Rattle.report.specs.declared.table.Row.{Row}
-use Rattle.report.specs.Inner.Table.{is_met, row_after, rows_to, rows_after, row_line, row_lines, HeldFits, RowsFit, table_text}
+use Rattle.report.specs.Inner.Table.{is_met, row_after, rows_to, rows_after, row_line, row_lines, RowsFit, table_text}
 use Rattle.report.specs.Sheet.{heading, all_line, chain_line, chain_lines, lines_to, sheet_text, statement_numbers}
 use Rattle.report.specs.Text.{line}
 use Rattle.report.proofs.MetChains.{met-used}
@@ -39,29 +38,22 @@ module _ (ws : List ℕ) where
       go true = append-nil (row_line (row_after ws (elements ws) (suc n))) ∙ row-line (suc n)
       go false = refl
 
-  module _ (fine : sound ws ≡ true) where
-    lines : {rows : List Row} → rows ≡ rows_after ws (elements ws) → row_lines rows ≡ chain_lines ws
-    unfolding rows_after chain_lines
-    lines table = ap row_lines table ∙ rows-lines most_chains
+  lines : {rows : List Row} → rows ≡ rows_after ws (elements ws) → row_lines rows ≡ chain_lines ws
+  unfolding rows_after chain_lines
+  lines table = ap row_lines table ∙ rows-lines most_chains
 
-    pub table-text : {rows : List Row} {total : Held} → rows ≡ rows_after ws (elements ws)
-        → total ≡ held_after ws (of_chains 1 most_chains) (elements ws) → table_text rows total ≡ sheet_text ws
-    unfolding table_text sheet_text
-    table-text table all = λ i. (heading ++ lines table i) ++ all_line ((ap with_total all ∙ held-total ws fine) i)
+  pub table-text : {rows : List Row} {total : StatementReply} → rows ≡ rows_after ws (elements ws) → total ≡ class_total ws
+      → table_text rows total ≡ sheet_text ws
+  unfolding table_text sheet_text
+  table-text table all = λ i. (heading ++ lines table i) ++ all_line (all i)
 
-    -- what the rows and the total hold has sums within the limits
-    held-fit : (test : _) {held : Held} → held ≡ held_after ws test (elements ws) → HeldFits held
-    held-fit test is =
-        let fits = held_fits ws test fine (elements ws) (omega arith) is in
-        record { operation_most = fits.2; provision_most = fits.3 }
+  -- what the rows hold has sums within the limits
+  rows-fit : sound ws ≡ true → (n : ℕ) → RowsFit (rows_to ws (elements ws) n)
+  rows-fit fine zero = All-nil (λ (row : Row). HeldFits row.held)
+  rows-fit fine (suc n) =
+      All-append (λ (row : Row). HeldFits row.held) (rows_to ws (elements ws) n) _ (rows-fit fine n)
+      (own-row (λ (row : Row). HeldFits row.held) ws (elements ws) (suc n) (held-fit ws (of_chain (suc n)) fine (elements ws) (omega arith) refl))
 
-    rows-fit : (n : ℕ) → RowsFit (rows_to ws (elements ws) n)
-    rows-fit zero = All-nil (λ (row : Row). HeldFits row.held)
-    rows-fit (suc n) =
-        All-append (λ (row : Row). HeldFits row.held) (rows_to ws (elements ws) n) _ (rows-fit n)
-        (own-row (λ (row : Row). HeldFits row.held) ws (elements ws) (suc n) (held-fit (of_chain (suc n)) refl))
-
-    pub table_fits : {rows : List Row} {total : Held} → rows ≡ rows_after ws (elements ws)
-        → total ≡ held_after ws (of_chains 1 most_chains) (elements ws) → RowsFit rows × HeldFits total
-    unfolding rows_after
-    table_fits table all = (rw table (rows-fit most_chains), held-fit (of_chains 1 most_chains) all)
+  pub table_fits : sound ws ≡ true → {rows : List Row} → rows ≡ rows_after ws (elements ws) → RowsFit rows
+  unfolding rows_after
+  table_fits fine table = rw table (rows-fit fine most_chains)

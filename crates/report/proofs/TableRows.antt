@@ -11,6 +11,7 @@ use borrow.Author.Tests.{lt-ltb, eq-eqb, ne_eqb}
 use lib.Dec.{ltb, eqb}
 use lib.ListN.{length, get_or, set, length-append}
 use lib.Seq.{take-append_seam, drop-append_seam}
+use Rattle.std.proofs.lemmas.Bool.{cases_lt}
 use Rattle.std.specs.List.{All, insert}
 use Rattle.std.specs.List.Sorted.{IsNonDecreasingBy, IsPartitionPoint}
 use Rattle.std.specs.Ordering.{nat_cmp, ordering_index}
@@ -19,7 +20,7 @@ use Rattle.std.proofs.lemmas.Bool.Decides.{nat_tests}
 use Rattle.std.proofs.lemmas.Cmp.{ranked}
 use Rattle.std.proofs.lemmas.List.{get_or_append_left, get_or-append-add, get_or_at, set_at}
 use Rattle.std.proofs.lemmas.List.Elements.{All-nil, All-cons, All-append}
-use Rattle.apportion.proofs.Sums.{order, below_or_not}
+use Rattle.apportion.proofs.Sums.{order}
 use Rattle.book.specs.Inner.Chains.{of_chains}
 use Rattle.book.specs.Statements.{of_chain}
 use Rattle.book.specs.Walk.{held_after, nothing}
@@ -383,8 +384,9 @@ module _ (chain : ℕ) where
   held-before [] others h = ap (λ (rows : List Row). held_for rows chain) (sym (append-nil others)) ∙ held-behind others [] h
   held-before (row ∷ rows) others h = ap (cond (eqb row.chain chain) row.held) (held-before rows others h)
 
--- so after the first k elements the table holds for every chain what the walk of its statement holds
-module _ (ws : List ℕ) (fine : sound ws ≡ true) (k : ℕ) (few : k ≤ elements ws) (chain : ℕ) where
+-- so after the first k elements the table holds for every chain what the walk of its statement holds: for each of 1 to 10,000, and in a
+-- sound book for any
+module _ (ws : List ℕ) (k : ℕ) (few : k ≤ elements ws) (chain : ℕ) where
   held-to : (n : ℕ) → 1 ≤ chain → chain ≤ n → held_for (rows_to ws k n) chain ≡ held_after ws (of_chain chain) k
   held-to zero some most = let z : ⊥ = omega arith in absurd z
   held-to (suc n) some most =
@@ -415,9 +417,11 @@ module _ (ws : List ℕ) (fine : sound ws ≡ true) (k : ℕ) (few : k ≤ eleme
       absurd z)
       ∙ sym (none-held ws chain k unused)
 
-  pub table-holds : held_for (rows_after ws k) chain ≡ held_after ws (of_chain chain) k
+  pub table-holds : (sound ws ≡ true) ⊎ ((1 ≤ chain) × (chain ≤ most_chains)) → held_for (rows_after ws k) chain ≡ held_after ws (of_chain chain) k
   unfolding rows_after
   table-holds =
+      ⊎_elim
+      (λ (fine : sound ws ≡ true).
       ⊎_elim
       (λ (none : chain < 1).
       held-outside most_chains (λ p l on. omega (arith, (chain-inside ws fine p (omega arith)).0, on)) (inl none))
@@ -426,5 +430,6 @@ module _ (ws : List ℕ) (fine : sound ws ≡ true) (k : ℕ) (few : k ≤ eleme
       (λ (past : most_chains < chain).
       held-outside most_chains (λ p l on. omega (arith, (chain-inside ws fine p (omega arith)).1, on)) (inr past))
       (λ (inside : chain ≤ most_chains). held-to most_chains some inside)
-      (below_or_not most_chains chain))
-      (below_or_not chain 1)
+      (cases_lt most_chains chain))
+      (cases_lt chain 1))
+      (λ (inside : (1 ≤ chain) × (chain ≤ most_chains)). held-to most_chains inside.0 inside.1)

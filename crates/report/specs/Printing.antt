@@ -1,5 +1,5 @@
 -- A text in a lent buffer, whole or not at all. Assumes nothing.
-use Rattle.std.specs.Prelude.{Result, Ok, Err, ℕ, Bool, true, false, cond, List, ◌++◌, leb, length, drop}
+use Rattle.std.specs.Prelude.{Result, Ok, Err, ℕ, ◌≡◌, Bool, true, false, cond, List, ◌++◌, leb, length, drop}
 use Rattle.apportion.specs.Grounds.{accepted}
 use Rattle.apportion.specs.Refusals.{number_of}
 use Rattle.report.specs.declared.printing.Unprinted.{Unprinted}
@@ -41,3 +41,8 @@ numbers_for refusal text room =
 -- the buffer after it: the text, and the bytes past it as they were; where the text does not fit, all as it was
 unfoldable pub buffer_with : List ℕ → List ℕ → List ℕ
 buffer_with text buffer = cond (fits text (length buffer)) (text ++ drop (length text) buffer) buffer
+
+-- a text is put at the start of a buffer that has room for it: its length is answered, and the bytes past it stay as they were
+pub record Put (text before after : List ℕ) (count : ℕ) : Type 0 where
+  pub counted : count ≡ length text
+  pub stored : after ≡ text ++ drop (length text) before

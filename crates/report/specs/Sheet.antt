@@ -5,6 +5,7 @@ use Rattle.apportion.specs.Grounds.{Ground, first_of, accepted}
 use Rattle.apportion.specs.Places.{sum_below}
 use Rattle.book.specs.ClassTotal.{class_total}
 use Rattle.book.specs.Statements.{of_chain, elements_over, statement_of}
+pub use Rattle.book.specs.Statements.{statement_numbers}
 use Rattle.book.specs.Statements.{StatementReply}
 use Rattle.book_words.specs.Measures.{most_chains}
 use Rattle.book_words.specs.Soundness.{sound}
@@ -34,9 +35,6 @@ unfoldable pub is_used : List ℕ → ℕ → Bool
 is_used ws chain = ltb 0 (elements_over ws (of_chain chain))
 
 -- the line of a chain: its number and its statement, under the words of the heading
-abbrev pub statement_numbers : StatementReply → List ℕ
-statement_numbers s = s.elements ∷ s.waiting ∷ s.operation ∷ s.provision ∷ s.total ∷ []
-
 unfoldable pub chain_line : List ℕ → ℕ → List ℕ
 chain_line ws chain = line chain (statement_numbers (statement_of ws chain))
 

@@ -1,5 +1,6 @@
 -- Text as bytes of ASCII: numbers in decimal, lines of them, also behind a word, and the last line. Assumes nothing.
 use Rattle.std.specs.Prelude.{ℕ, zero, suc, ◌+◌, ◌/◌, ◌%◌, cond, List, [], ◌∷◌, ◌++◌, ltb, eqb}
+use Rattle.std.specs.List.{flat_map}
 use Rattle.apportion.specs.Places.{one_if}
 
 -- the byte of a digit: `0` is 48
@@ -15,10 +16,13 @@ decimal_within (suc most) n = cond (ltb n 10) (digit n ∷ []) (decimal_within m
 unfoldable pub decimal : ℕ → List ℕ
 decimal n = decimal_within 20 n
 
+-- a number in decimal, behind a space
+abbrev pub spaced_number : ℕ → List ℕ
+spaced_number n = 32 ∷ decimal n
+
 -- numbers in decimal, each behind a space
 abbrev pub spaced : List ℕ → List ℕ
-spaced [] = []
-spaced (n ∷ ns) = (32 ∷ decimal n) ++ spaced ns
+spaced numbers = flat_map spaced_number numbers
 
 -- the end of a line: numbers, each behind a space, and the newline
 abbrev pub line_end : List ℕ → List ℕ

@@ -1,5 +1,7 @@
-// A text printed into a lent buffer, whole or not at all.
+// A text printed into a lent buffer, whole or not at all. What prints says three things, as document 01 wants of an answer that is an enum:
+// the answer, its numbers, and the buffer.
 ghost use Rattle.std.specs.Prelude.{◌≡◌, length};
+ghost use Rattle.report.specs.declared.printing.Unprinted.TheVariants.{Refused};
 ghost use Rattle.report.specs.Printing.{printed_numbers, answer_for, numbers_for, buffer_with};
 
 use apportion::Refusal;
@@ -10,6 +12,14 @@ pub enum Unprinted {
     // The buffer is shorter than the text, which has this length.
     TooSmall(usize),
     Refused(Refusal),
+}
+
+impl From<Refusal> for Unprinted {
+    ghost from_gives = { λ refusal unprinted. unprinted ≡ Refused refusal };
+
+    fn from(refusal: Refusal) -> Unprinted {
+        Unprinted::Refused(refusal)
+    }
 }
 
 // Copies a text to the start of the buffer, where it fits, and answers its length.

@@ -1,41 +1,39 @@
-// The table of a sheet: a row for each chain that has been met, ascending, with what the walk of the chain's statement holds. One walk
-// over the elements fills it, and collects the class total beside it.
+// The table of a sheet: a row for each used chain, ascending, with what the walk of the chain's statement holds, and the class total.
 ghost use Rattle.std.specs.Prelude.{true, ◌≡◌, ◌+◌, ◌≤◌, ◌<◌, []};
-ghost use Rattle.book.specs.Inner.Chains.{of_chains};
-ghost use Rattle.book.specs.Walk.{held_after, nothing};
+ghost use Rattle.book.specs.ClassTotal.{class_total};
+ghost use Rattle.book.specs.Statements.{reply_with};
 ghost use Rattle.book_words.specs.Book.{elements};
-ghost use Rattle.book_words.specs.Measures.{most_chains};
 ghost use Rattle.book_words.specs.Soundness.{sound};
-ghost use Rattle.report.specs.Inner.Table.{rows_after};
+ghost use Rattle.report.specs.Inner.Table.{RowsFit, rows_after};
+ghost use Rattle.arrayvec.specs.ArrayVec.{array_vec_len};
 
 use arrayvec::ArrayVec;
-use book::Held;
+use book::{Held, Statement};
 use book_words::{Element, MOST_CHAINS, SoundWords};
 
 // A chain, and what the walk of its statement holds.
-#[derive(Clone, Copy)]
+#[derive(Clone, Copy, Default)]
 pub struct Row {
     pub chain: u64,
     pub held: Held,
 }
 
-impl Default for Row {
-    ghost is_default = { λ row. row ≡ record { chain = 0; held = nothing } };
-
-    fn default() -> Row {
-        Row {
-            chain: 0,
-            held: book::NOTHING,
-        }
-    }
+// The rows of a table, and the class total. The rows are lent: as an ArrayVec, by value, a full sheet costs 4 % more, and the example
+// 11 %.
+#[derive(Clone, Copy)]
+pub struct Table<'a> {
+    pub rows: &'a [Row],
+    pub total: Statement,
+    // So that each row's total fits in 64 bits.
+    ghost fit: { RowsFit rows.now },
 }
 
-// Fills an empty table in one walk over the elements, and answers the class total.
-pub fn collect<const N: usize>(book: &SoundWords, rows: &mut ArrayVec<Row, N>) -> Held
+// Makes the rows in one walk over the elements, and answers the class total.
+pub fn collect<const N: usize>(book: &SoundWords, rows: &mut ArrayVec<Row, N>) -> Statement
     requires room { elements book.now ≤ N }
     requires empty { rows.old.items ≡ [] }
     ensures book { sound book.now ≡ true }
-    ensures value { result ≡ held_after book.now (of_chains 1 most_chains) (elements book.now) }
+    ensures value { reply_with result ≡ class_total book.now }
     ensures table { rows.new.items ≡ rows_after book.now (elements book.now) }
 {
     let mut total = book::NOTHING;
@@ -43,13 +41,13 @@ pub fn collect<const N: usize>(book: &SoundWords, rows: &mut ArrayVec<Row, N>) -
         add_next(book, passed, rows);
         total = book::walk_on(book, 1, MOST_CHAINS, passed, total);
     }
-    total
+    total.with_total()
 }
 
 // One element more: adds it in the row of its chain. A chain that is not met yet gets a row.
 fn add_next<const N: usize>(book: &SoundWords, passed: u64, rows: &mut ArrayVec<Row, N>)
     requires passed { passed < elements book.now }
-    requires room { elements book.now ≤ N }
+    requires room { array_vec_len rows.old < N }
     requires table { rows.old.items ≡ rows_after book.now passed }
     ensures { rows.new.items ≡ rows_after book.now (passed + 1) }
 {

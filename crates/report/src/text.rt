@@ -1,18 +1,16 @@
-// Text put into a buffer at a position: bytes, numbers in decimal, and lines of numbers, also behind a word. What puts answers the
-// position behind what it put.
-ghost use Rattle.std.specs.Prelude.{◌≡◌, ◌+◌, ◌≤◌, length};
-ghost use Rattle.std.proofs.lemmas.List.Edits.{sets};
-ghost use Rattle.report.specs.Text.{decimal, line_end, line, word_line};
+// Text put at the start of a buffer: bytes, numbers in decimal, and lines of numbers, also behind a word. What puts answers how many
+// bytes it put, and what follows is put into the rest of the buffer.
+ghost use Rattle.std.specs.Prelude.{◌≡◌, ◌≤◌, length};
+ghost use Rattle.report.specs.Printing.{Put};
+ghost use Rattle.report.specs.Text.{decimal, spaced_number, line_end, line, word_line};
 
 // Puts bytes.
-pub fn put_bytes(bytes: &[u8], out: &mut [u8], at: usize) -> usize
-    requires { at + length bytes.now ≤ length out.old }
-    ensures value { result ≡ at + length bytes.now }
-    ensures out_after { out.new ≡ sets out.old at bytes.now }
+pub fn put_bytes(bytes: &[u8], out: &mut [u8]) -> usize
+    requires { length bytes.now ≤ length out.old }
+    ensures { Put bytes.now out.old out.new result }
 {
-    let end = at + bytes.len();
-    out[at..end].copy_from_slice(bytes);
-    end
+    out[..bytes.len()].copy_from_slice(bytes);
+    bytes.len()
 }
 
 // How many digits a number has.
@@ -25,49 +23,53 @@ fn digit_count(number: u64) -> usize
 
 // Puts a number in decimal. Its digits are written in place: by a buffer of their own a full sheet costs 3 % more.
 #[tactic(auto, using(crate::proofs::Decimals::is_decimal))]
-pub fn put_number(number: u64, out: &mut [u8], at: usize) -> usize
-    requires { at + length (decimal number) ≤ length out.old }
-    ensures value { result ≡ at + length (decimal number) }
-    ensures out_after { out.new ≡ sets out.old at (decimal number) }
+pub fn put_number(number: u64, out: &mut [u8]) -> usize
+    requires { length (decimal number) ≤ length out.old }
+    ensures { Put (decimal number) out.old out.new result }
 {
-    let end = at + digit_count(number);
-    itoa::write_digits(number, out, end);
-    end
+    let count = digit_count(number);
+    itoa::write_digits(number, out, count);
+    count
 }
 
 // Puts a line of numbers, with single spaces between.
-#[tactic(auto, using(crate::proofs::Stores::sets_append), unfolding(crate::specs::Text::line))]
-pub fn put_line(first: u64, rest: &[u64], out: &mut [u8], at: usize) -> usize
-    requires { at + length (line first rest.now) ≤ length out.old }
-    ensures value { result ≡ at + length (line first rest.now) }
-    ensures out_after { out.new ≡ sets out.old at (line first rest.now) }
+#[tactic(auto, using(crate::proofs::Puts::put_behind), unfolding(crate::specs::Text::line))]
+pub fn put_line(first: u64, rest: &[u64], out: &mut [u8]) -> usize
+    requires { length (line first rest.now) ≤ length out.old }
+    ensures { Put (line first rest.now) out.old out.new result }
 {
-    let end = put_number(first, out, at);
-    put_line_end(rest, out, end)
+    let count = put_number(first, out);
+    count + put_line_end(rest, &mut out[count..])
 }
 
 // Puts a line that begins with a word.
-#[tactic(auto, using(crate::proofs::Stores::sets_append), unfolding(crate::specs::Text::word_line))]
-pub fn put_word_line(word: &[u8], numbers: &[u64], out: &mut [u8], at: usize) -> usize
-    requires { at + length (word_line word.now numbers.now) ≤ length out.old }
-    ensures value { result ≡ at + length (word_line word.now numbers.now) }
-    ensures out_after { out.new ≡ sets out.old at (word_line word.now numbers.now) }
+#[tactic(auto, using(crate::proofs::Puts::put_behind), unfolding(crate::specs::Text::word_line))]
+pub fn put_word_line(word: &[u8], numbers: &[u64], out: &mut [u8]) -> usize
+    requires { length (word_line word.now numbers.now) ≤ length out.old }
+    ensures { Put (word_line word.now numbers.now) out.old out.new result }
 {
-    let end = put_bytes(word, out, at);
-    put_line_end(numbers, out, end)
+    let count = put_bytes(word, out);
+    count + put_line_end(numbers, &mut out[count..])
 }
 
 // Puts the end of a line: numbers, each behind a space, and the newline.
-fn put_line_end(numbers: &[u64], out: &mut [u8], at: usize) -> usize
-    requires { at + length (line_end numbers.now) ≤ length out.old }
-    ensures value { result ≡ at + length (line_end numbers.now) }
-    ensures out_after { out.new ≡ sets out.old at (line_end numbers.now) }
+fn put_line_end(numbers: &[u64], out: &mut [u8]) -> usize
+    requires { length (line_end numbers.now) ≤ length out.old }
+    ensures { Put (line_end numbers.now) out.old out.new result }
 {
-    let mut end = at;
+    let mut count = 0;
     for number in numbers {
-        out[end] = b' ';
-        end = put_number(*number, out, end + 1);
+        count += put_spaced(*number, &mut out[count..]);
     }
-    out[end] = b'\n';
-    end + 1
+    out[count] = b'\n';
+    count + 1
+}
+
+// Puts a number behind a space.
+fn put_spaced(number: u64, out: &mut [u8]) -> usize
+    requires { length (spaced_number number) ≤ length out.old }
+    ensures { Put (spaced_number number) out.old out.new result }
+{
+    out[0] = b' ';
+    1 + put_number(number, &mut out[1..])
 }

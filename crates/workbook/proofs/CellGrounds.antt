@@ -6,8 +6,7 @@ use Prim.Native.Nat.{ℕ, zero, suc}
 use native.Mathlib.Omega.{arith}
 use lib.Dec.{eqb}
 use lib.Ieee.{Float, lt}
-use Rattle.std.proofs.Common.{Result, Ok, Err}
-use Rattle.std.specs.Result.{IsErrAnd}
+use Rattle.std.proofs.Common.{Ok, Err}
 use Rattle.apportion.specs.Grounds.{accepted, Ground, first_of}
 use Rattle.apportion.specs.Refusals.{number_of}
 use Rattle.apportion.specs.declared.refusing.Refusal.{Refusal}
@@ -21,11 +20,6 @@ use Rattle.workbook.specs.Doubles.{is_refused}
 use Rattle.workbook.specs.Cells.{quantity_limit, factor_limit, cell_grounds, cell_refusal, mean, cell_value}
 use Rattle.workbook.specs.Inner.Steps.{Conversion, conversion_in, conversion_by, conversion_of}
 use Rattle.workbook.specs.Lines.{line_grounds, line_refusal, converted_line, line_conversion_in}
-
--- the answer that a refusal is handed on in
-pub handed-on_as : {A : Type 0} (r : Refusal) (answer : Result A Refusal) → IsErrAnd answer (λ e. e ≡ r) → answer ≡ Err r
-handed-on_as r (Ok a) h = absurd h
-handed-on_as r (Err e) h = rw h
 
 -- a cell by the answer of its conversion
 cell_refused : (limit : ℕ) (cell : Cell) (r : Refusal) → conversion_in (Err r) ≡ conversion_of limit cell → number_of r ≡ cell_refusal limit cell
@@ -110,7 +104,7 @@ none-of-three zero (suc b) c e = let z : ⊥ = omega (arith, e) in absurd z
 none-of-three (suc a) b c e = let z : ⊥ = omega (arith, e) in absurd z
 
 -- a line by its three cells
-module _ (line : Line) where
+module _ (line : Line Cell) where
   abbrev quantity_refusal : ℕ
   quantity_refusal = cell_refusal quantity_limit line.quantity
 

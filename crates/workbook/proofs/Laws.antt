@@ -71,7 +71,7 @@ cell-most limit (Span x y) e = go (is_refused limit x || is_refused limit y) ref
         nearest-most (thousandths (exact x) + thousandths (exact y)) 2 (1000 * limit) (omega arith) (omega (arith, a, b))
 
 -- The measures of an accepted line: a quantity of at most 10^12, and factors of at most 10^10.
-pub line-most : (line : Line) → line_refusal line ≡ 0
+pub line-most : (line : Line Cell) → line_refusal line ≡ 0
     → (cell_value line.quantity ≤ 1_000_000_000_000)
     × (cell_value line.operation_factor ≤ 10_000_000_000)
     × (cell_value line.provision_factor ≤ 10_000_000_000)

@@ -10,10 +10,10 @@ use lib.Dec.{ltb}
 use lib.Ieee.{Float, nan, inf, fin, up, down}
 use lib.Ieee.Exact.{HasValue}
 use lib.Ieee.Fits.{down_pos, up_pos}
+use Rattle.std.proofs.lemmas.Bool.{cases_lt}
 use Rattle.std.proofs.Common.{Err}
 use Rattle.apportion.specs.Fractions.{over}
 use Rattle.apportion.specs.declared.refusing.Refusal.TheVariants.{WrongCell}
-use Rattle.apportion.proofs.Sums.{below_or_not}
 use Rattle.apportion.proofs.Rounding.{nearest-same}
 use Rattle.workbook.specs.declared.cells.Cell.TheVariants.{Number}
 use Rattle.workbook.specs.Doubles.{exact, thousandths, is_above, is_refused}
@@ -25,7 +25,7 @@ same_test a b c d there back = go (ltb a b) refl
   where
     go : (t : Bool) → ltb a b ≡ t → t ≡ ltb c d
     go true is = sym (lt-ltb c d (there (ltb-true a b is)))
-    go false is = sym (le-ltb c d (⊎_elim (λ (l : c < d). let z = back l in omega (arith, z, ltb-false a b is)) (λ (g : d ≤ c). g) (below_or_not c d)))
+    go false is = sym (le-ltb c d (⊎_elim (λ (l : c < d). let z = back l in omega (arith, z, ltb-false a b is)) (λ (g : d ≤ c). g) (cases_lt c d)))
 
 -- a fraction is above a limit however it is written
 above_same : (limit a b c d : ℕ) → 0 < b → 0 < d → a * d ≡ c * b → is_above limit (over a b) ≡ is_above limit (over c d)

@@ -3,17 +3,17 @@ use Rattle.std.specs.Prelude.{List, ◌++◌, ℕ, Result, Ok, Err}
 use Rattle.apportion.specs.Grounds.{accepted, Ground, first_of}
 use Rattle.apportion.specs.Refusals.{number_of}
 use Rattle.apportion.specs.declared.refusing.Refusal.{Refusal}
+use Rattle.workbook.specs.declared.cells.Cell.{Cell}
 use Rattle.workbook.specs.declared.lines.Line.{Line}
-use Rattle.workbook.specs.declared.lines.ConvertedLine.{ConvertedLine}
 use Rattle.workbook.specs.Cells.{quantity_limit, factor_limit, cell_grounds, cell_value}
 
 -- "cell by cell from the left"
-abbrev pub line_grounds : Line → List Ground
+abbrev pub line_grounds : Line Cell → List Ground
 line_grounds line =
     cell_grounds quantity_limit line.quantity
     ++ (cell_grounds factor_limit line.operation_factor ++ cell_grounds factor_limit line.provision_factor)
 
-unfoldable pub line_refusal : Line → ℕ
+unfoldable pub line_refusal : Line Cell → ℕ
 line_refusal line = first_of (line_grounds line)
 
 -- what a line is posted with, in thousandths of its units; "A refusal returns its number with zeros"
@@ -23,7 +23,7 @@ pub record LineConversion : Type 0 where
   pub operation_factor : ℕ
   pub provision_factor : ℕ
 
-abbrev pub converted_line : Line → LineConversion
+abbrev pub converted_line : Line Cell → LineConversion
 converted_line line =
     record {
       refusal = line_refusal line;
@@ -33,7 +33,7 @@ converted_line line =
     }
 
 -- what an answer says
-abbrev pub line_conversion_in : Result ConvertedLine Refusal → LineConversion
+abbrev pub line_conversion_in : Result (Line ℕ) Refusal → LineConversion
 line_conversion_in (Ok line) =
     record {
       refusal = 0;

@@ -7,8 +7,9 @@ ghost use Rattle.workbook.specs.Inner.Steps.{conversion_in, conversion_of};
 use crate::doubles;
 use apportion::{Refusal, added_by_rounding};
 
-#[derive(Clone, Copy)]
+#[derive(Clone, Copy, Default)]
 pub enum Cell {
+    #[default]
     Blank,
     Number(f64),
     Span(f64, f64),

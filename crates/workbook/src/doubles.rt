@@ -47,7 +47,7 @@ fn convert_fraction(digits: u64, places: u32, limit: u32) -> Result<u64, Refusal
     requires { digits < 2 ^ 53 }
     ensures { conversion_in result ≡ fraction_conversion limit (over digits (2 ^ places)) }
 {
-    if digits > 0 && (digits - 1).unbounded_shr(places) >= limit as u64 {
+    if digits > 0 && (digits - 1).unbounded_shr(places) >= u64::from(limit) {
         return Err(Refusal::WrongCell);
     }
     Ok(nearest_shifted(1000 * digits, places))

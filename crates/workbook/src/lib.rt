@@ -6,4 +6,4 @@ mod doubles;
 mod lines;
 
 pub use cells::Cell;
-pub use lines::{ConvertedLine, Line, convert};
+pub use lines::{Line, convert};

@@ -1,32 +1,38 @@
 -- The steps of a closing and of an intensity: what inner functions require and promise. Assumes nothing.
-use Rattle.std.specs.Prelude.{cond, true, false, List, ◌∷◌, [], ◌≡◌, ℕ, ◌+◌, ◌*◌, ◌≤◌, zero, suc, eqb, length, set}
+use Rattle.std.specs.Prelude.{Option, Some, None, cond, true, false, List, ◌∷◌, [], ◌≡◌, ℕ, ◌+◌, ◌*◌, ◌≤◌, zero, suc, eqb, ltb, length, set}
 use Rattle.apportion.specs.Dividing.{Divisible, divided, most_pool}
-use Rattle.apportion.specs.Grounds.{accepted}
 use Rattle.apportion.specs.Places.{at, list_below}
 use Rattle.book_words.specs.Book.{categories}
 use Rattle.book_words.specs.Measures.{between, is_hub}
-use Rattle.book_words.specs.Soundness.{sound}
 use Rattle.book_words.specs.declared.totals.Side.{Side}
 use Rattle.book_words.specs.declared.totals.Side.TheVariants.{Operation as operation, Provision as provision}
 use Rattle.book_words.specs.Inner.Steps.{capped}
+use Rattle.book_words.specs.Totals.{unstruck}
 use Rattle.book_words.specs.declared.records.Entry.{Entry}
 use Rattle.book_shares.specs.declared.pools.Pools.{Pools}
 use Rattle.book_shares.specs.declared.sharing.Parts.{Parts}
-use Rattle.book_shares.specs.declared.weights.Recipients.{Recipients}
-use Rattle.book_shares.specs.Closing.{close_refusal}
+use Rattle.book_shares.specs.declared.sharing.Shares.{Shares}
+use Rattle.book_shares.specs.declared.weights.Group.{Group}
+use Rattle.book_shares.specs.declared.weights.Group.TheVariants.{Chilled as chilled, Frozen as frozen}
+use Rattle.book_shares.specs.declared.weights.Recipients.{Recipients as Named}
+use Rattle.book_shares.specs.declared.weights.Recipients.TheVariants.{Freight as freight, Passengers as passengers, Group as of_group}
 use Rattle.book_shares.specs.Intensities.{is_intensity_code, lacks_activity}
 use Rattle.book_shares.specs.Shares.{closing_share}
-use Rattle.book_shares.specs.Inner.Members.{at_places, members, weights_at}
-use Rattle.book_shares.specs.Sums.{in_group, activity_among, pool}
+use Rattle.book_shares.specs.Inner.Members.{weights_at, group_number}
+use Rattle.book_shares.specs.Sums.{Recipients, activity_among, pool}
+
+-- the pool of this group with what an entry adds to it, where it is of the group
+abbrev pub pool_with : ℕ → ℕ → Side → Entry → ℕ
+pool_with sum group side e = cond (eqb e.group group) (capped (sum + unstruck side e)) sum
 
 -- the pools with what an entry adds to them, where it is of the category
 abbrev pub pools_with : Pools → ℕ → Side → Entry → Pools
 pools_with pools category side e =
     cond (eqb e.category category)
     (record {
-      all = capped (pools.all + in_group 0 side e);
-      chilled = capped (pools.chilled + in_group 1 side e);
-      frozen = capped (pools.frozen + in_group 2 side e);
+      all = pool_with pools.all 0 side e;
+      chilled = pool_with pools.chilled 1 side e;
+      frozen = pool_with pools.frozen 2 side e;
     })
     pools
 
@@ -39,9 +45,10 @@ pools_by ws category side =
       frozen = pool ws category 2 side;
     }
 
--- the pool of group 1 or of group 2
-abbrev pub group_pool : Pools → ℕ → ℕ
-group_pool pools group = cond (eqb group 1) pools.chilled pools.frozen
+-- the pool of a group
+abbrev pub group_pool : Pools → Group → ℕ
+group_pool pools chilled = pools.chilled
+group_pool pools frozen = pools.frozen
 
 -- A divided by the weights F and P
 abbrev pub parts_by : ℕ → ℕ → ℕ → Parts
@@ -59,27 +66,20 @@ pub record DivisibleOver (ws places : List ℕ) (recipients : Recipients) (amoun
 -- these shares, to each of which the part of an amount is added that the element at its place gets
 abbrev pub with_parts_of : List ℕ → List ℕ → Recipients → ℕ → List ℕ → List ℕ
 with_parts_of ws places recipients amount shares =
-    list_below (length places) (λ k. at shares k + at (divided amount (weights_at ws places recipients)) k)
+    list_below (length shares) (λ k. at shares k + at (divided amount (weights_at ws places recipients)) k)
 
--- what a closing is worked out with: a sound book, the places of the category's elements, and a slice of zeros for the shares of
--- each side
-pub record ToWorkOut (ws : List ℕ) (category : ℕ) (places by_operation by_provision : List ℕ) : Type 0 where
-  pub fine : sound ws ≡ true
-  pub are : places ≡ members ws category
-  pub operation_long : length by_operation ≡ length places
-  pub provision_long : length by_provision ≡ length places
-  pub operation_zeros : (k : ℕ) → at by_operation k ≡ 0
-  pub provision_zeros : (k : ℕ) → at by_provision k ≡ 0
+-- the share of a side at place k
+abbrev pub share_at : Shares → Side → ℕ → ℕ
+share_at shares operation k = at shares.operation k
+share_at shares provision k = at shares.provision k
 
--- the shares of the elements at these places, where the closing is accepted; where it is refused, the slice as it was
-abbrev pub worked_out : List ℕ → ℕ → List ℕ → Side → List ℕ → List ℕ
-worked_out ws category places side shares =
-    accepted (close_refusal ws category) (at_places places (closing_share ws category side)) shares
+-- the share of a closing for the element at place k of these; 0 past the last
+abbrev pub listed_share : List ℕ → ℕ → List ℕ → Side → ℕ → ℕ
+listed_share ws category places side k = cond (ltb k (length places)) (closing_share ws category side (at places k)) 0
 
--- two lists by their sides
-abbrev pub lists_by_side : List ℕ → List ℕ → Side → ℕ → ℕ
-lists_by_side a b operation k = at a k
-lists_by_side a b provision k = at b k
+-- the shares of a closing are worked out for the elements at these places
+abbrev pub WorkedOut : List ℕ → ℕ → List ℕ → Shares → Type 0
+WorkedOut ws category places shares = (side : Side) (k : ℕ) → share_at shares side k ≡ listed_share ws category places side k
 
 -- two words are written, one after the other
 abbrev pub put_two : List ℕ → ℕ → ℕ → ℕ → List ℕ
@@ -92,12 +92,21 @@ hand_out_to first width places zero words share = words
 hand_out_to first width places (suc n) words share =
     put_two (hand_out_to first width places n words share) (first + width * at places n) (share operation n) (share provision n)
 
--- grounds 1, 2, 3 and 9 of an intensity do not hold; the code behind them needs no more
-pub record Allowed (ws : List ℕ) (category code : ℕ) : Type 0 where
-  pub fine : sound ws ≡ true
+-- the code of the intensity of freight, of passengers or of a group: "code 0, 1, 2 or 100"
+abbrev pub code_of : Named → ℕ
+code_of freight = 0
+code_of passengers = 100
+code_of (of_group g) = group_number g
+
+-- what the intensity of a code is of: none where it is no code of an intensity
+abbrev pub AskedBy : ℕ → Option Named → Type 0
+AskedBy code None = is_intensity_code code ≡ false
+AskedBy code (Some recipients) = code ≡ code_of recipients
+
+-- grounds 2 and 9 of an intensity do not hold; the code behind them needs no more
+pub record Allowed (ws : List ℕ) (category : ℕ) (recipients : Named) : Type 0 where
   pub numbered : between 1 (categories ws) category ≡ true
-  pub known : is_intensity_code code ≡ true
-  pub some_activity : lacks_activity (activity_among ws category) code ≡ false
+  pub some_activity : lacks_activity (activity_among ws category) (code_of recipients) ≡ false
 
 -- how many tens the scale of a kind is the product of
 abbrev pub scale_tens : ℕ → ℕ

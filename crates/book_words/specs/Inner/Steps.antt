@@ -7,9 +7,9 @@ use Rattle.book_words.specs.declared.totals.Sums.{Sums}
 use Rattle.book_words.specs.Book.{book_length, categories, most_categories, category_at}
 use Rattle.book_words.specs.Book.{entries, most_entries, entry_at, elements, most_elements, element_at}
 use Rattle.book_words.specs.Measures.{between, standard_activity}
-use Rattle.book_words.specs.Soundness.{all_below, header_fine, category_fine, entry_fine, element_fine, elements_fine, passengers_fine, sums_fine, shares_fine}
+use Rattle.book_words.specs.Soundness.{all_below, category_fine, entry_fine, element_fine, elements_fine, passengers_fine, sums_fine, shares_fine}
 use Rattle.book_words.specs.declared.soundness.List.{List as Tested}
-use Rattle.book_words.specs.declared.soundness.List.TheVariants.{Header, Categories, Entries, Elements, Passengers, Sums as SumsList, Closings}
+use Rattle.book_words.specs.declared.soundness.List.TheVariants.{Categories, Entries, Elements, Passengers, Sums as SumsList, Closings}
 use Rattle.book_words.specs.declared.totals.Side.{Side}
 use Rattle.book_words.specs.declared.totals.Side.TheVariants.{Operation as operation, Provision as provision}
 use Rattle.book_words.specs.Totals.{most_emissions, quoted_share, unstruck, emitted}
@@ -42,9 +42,8 @@ pub record CountsWithin (ws : List ℕ) : Type 0 where
 abbrev pub Limited : List ℕ → Type 0
 Limited ws = (side : Side) → emitted ws side ≤ most_emissions
 
--- how many records a list of the test has: the header, the passengers and the sums are one record each
+-- how many records a list of the test has: the passengers and the sums are one record each
 abbrev pub count_in : List ℕ → Tested → ℕ
-count_in ws Header = 1
 count_in ws Categories = categories ws
 count_in ws Entries = entries ws
 count_in ws Elements = elements ws
@@ -53,7 +52,6 @@ count_in ws SumsList = 1
 count_in ws Closings = categories ws
 
 abbrev pub record_fine : List ℕ → Tested → ℕ → Bool
-record_fine ws Header place = header_fine ws
 record_fine ws Categories place = category_fine (category_at ws place)
 record_fine ws Entries place = entry_fine ws (entry_at ws place)
 record_fine ws Elements place = element_fine ws (element_at ws place)
@@ -65,15 +63,14 @@ record_fine ws Closings place = shares_fine ws place
 unfoldable pub list_fine : List ℕ → Tested → Bool
 list_fine ws list = all_below (count_in ws list) (record_fine ws list)
 
--- what the rules of a list take for granted: those of the lists before it give it
+-- what the rules of a list take for granted behind the header: those of the lists before it give it
 abbrev pub ReadyFor : Tested → List ℕ → Type 0
-ReadyFor Header ws = Unit {0}
-ReadyFor Categories ws = CountsWithin ws
-ReadyFor Entries ws = CountsWithin ws
-ReadyFor Elements ws = CountsWithin ws
-ReadyFor Passengers ws = CountsWithin ws × (elements_fine ws ≡ true)
-ReadyFor SumsList ws = CountsWithin ws
-ReadyFor Closings ws = CountsWithin ws × Limited ws
+ReadyFor Categories ws = Unit {0}
+ReadyFor Entries ws = Unit {0}
+ReadyFor Elements ws = Unit {0}
+ReadyFor Passengers ws = elements_fine ws ≡ true
+ReadyFor SumsList ws = Unit {0}
+ReadyFor Closings ws = Limited ws
 
 -- an amount of this side, and two amounts by their sides
 abbrev pub side_of : Side → Amounts → ℕ

@@ -1,9 +1,9 @@
 -- `replay::play` meets its contract. Assumes nothing.
 use native.Mathlib.Omega.{arith}
 use mathlib.Core.Path.{sym, ◌∙◌}
+use Rattle.std.proofs.lemmas.Bool.{and_parts}
 use Rattle.std.proofs.lemmas.List.{nil_from_length}
 use lib.ListN.{length-append}
-use Rattle.book_words.proofs.Booleans.{both}
 use Rattle.std.specs.Slice.Iter.{chunks_rest}
 use Rattle.replay.specs.Stages.{stage_of}
 use Rattle.replay.proofs.Stages.{unfailed-bad, replay-on, replay-stop, one-passed}
@@ -17,7 +17,7 @@ loop-record-preserved c =
     let some = rw bytes at step.1.2 in
     let front = c.in-Some.record.now in
     let left = chunks_rest c.next.new.self in
-    let good = (both c.handle.new.self.good c.handle.new.self.output.ok (sym c.goes_on.ensures ∙ c.if-not-goes_on.false)).0 in
+    let good = (and_parts c.handle.new.self.good c.handle.new.self.output.ok (sym c.goes_on.ensures ∙ c.if-not-goes_on.false)).0 in
     record {
       size = step.0 ∙ c.loop-record.invariant.size;
       done = replay-on front left (stage_of c.loop-record.state) _ sized some c.handle.ensures good ∙ (rw bytes at c.loop-record.invariant.done);

@@ -1,5 +1,5 @@
 -- What an operation does, by what it carries: what inner functions promise. Assumes nothing.
-use Rattle.std.specs.Prelude.{ℕ, ◌≡◌, ◌≤◌, cond, List, [], ◌∷◌, eqb, ltb, leb, MatchOption, Option}
+use Rattle.std.specs.Prelude.{ℕ, ◌≡◌, ◌≤◌, cond, List, [], ◌∷◌, ◌++◌, eqb, ltb, leb, length, MatchResult, Result}
 use Rattle.book.specs.Replies.{Reply}
 use Rattle.book.specs.Calls.{fresh_refusal, fresh_book}
 use Rattle.book.specs.Statements.{statement_reply}
@@ -11,9 +11,10 @@ use Rattle.conservation.specs.Runs.{step}
 use Rattle.workbook.specs.declared.cells.Cell.{Cell}
 use Rattle.replay.specs.declared.operations.Operation.{Operation}
 use Rattle.replay.specs.declared.operations.Operation.TheVariants.{Fresh, Make, Statement, Intensity, Divide, Weight, Poke, Lend, Dump, Load, List as ListCell, Line, Preview}
+use Rattle.replay.specs.declared.records.BadRecord.{BadRecord}
 use Rattle.replay.specs.declared.records.Words.{Words}
 use Rattle.replay.specs.Answers.{answering, statement_reply_numbers, intensity_numbers, file_numbers}
-use Rattle.replay.specs.Cells.{no_cells, with_cell}
+use Rattle.replay.specs.Cells.{listed_line}
 use Rattle.replay.specs.Replay.{Machine, bad, with_cells, lent_words, returned, division_done, listed, poked, lent_anew, dumped, preview_done}
 use Rattle.replay.specs.Stages.{file_room, Stage, on_machine, with_file, operated}
 
@@ -42,13 +43,13 @@ intensity_told category code machine =
 
 -- a cell is listed, where there is room
 abbrev pub cell_put : Cell → Machine → Machine
-cell_put cell machine = cond (ltb 2 machine.cells.count) (bad machine) (with_cells (with_cell cell machine.cells) machine)
+cell_put cell machine = cond (ltb 2 (length machine.cells)) (bad machine) (with_cells (machine.cells ++ (cell ∷ [])) machine)
 
 -- a line of the listed cells, where they are three, is posted, and the list is emptied
 abbrev pub line_made : ℕ → ℕ → Machine → Machine
 line_made category group machine =
-    cond (eqb machine.cells.count 3)
-    (with_cells no_cells (made (CallLine (record { category = category; group = group; line = machine.cells.line })) machine))
+    cond (eqb (length machine.cells) 3)
+    (with_cells [] (made (CallLine (record { category = category; group = group; line = listed_line machine.cells })) machine))
     (bad machine)
 
 -- the file is loaded, once no byte of it is missing
@@ -79,7 +80,7 @@ operation_done (Line category group) stage = on_machine (line_made category grou
 operation_done (Preview category size) stage = on_machine (preview_done category size) stage
 
 -- the words of a record ask for this operation, or for none: where no byte of a file is missing, they do what it does, or are bad
-unfoldable pub AsksFor : Words → Option Operation → Type 0
+unfoldable pub AsksFor : Words → Result Operation BadRecord → Type 0
 AsksFor words asked =
     (stage : Stage) → stage.missing ≤ 0
-    → MatchOption asked (operated words stage ≡ on_machine bad stage) (λ operation. operated words stage ≡ operation_done operation stage)
+    → MatchResult asked (λ operation. operated words stage ≡ operation_done operation stage) (λ none. operated words stage ≡ on_machine bad stage)

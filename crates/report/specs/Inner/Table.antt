@@ -1,14 +1,13 @@
 -- The table of a sheet: a row for each chain that is met, which one walk over the elements fills; what its functions require and
 -- promise. Assumes nothing.
-use Rattle.std.specs.Prelude.{ℕ, zero, suc, ◌≤◌, Bool, cond, List, [], ◌∷◌, ◌++◌, ltb, eqb}
+use Rattle.std.specs.Prelude.{ℕ, zero, suc, Bool, cond, List, [], ◌∷◌, ◌++◌, ltb, eqb}
 use Rattle.std.specs.List.{All, flat_map}
-use Rattle.book.specs.Statements.{of_chain}
-use Rattle.book.specs.Walk.{held_after, nothing, with_total}
+use Rattle.book.specs.Statements.{StatementReply, of_chain, statement_numbers}
+use Rattle.book.specs.Walk.{HeldFits, held_after, nothing, with_total}
 use Rattle.book.specs.declared.walks.Held.{Held}
 use Rattle.book_words.specs.Measures.{most_chains}
-use Rattle.book_words.specs.Totals.{most_emissions}
 use Rattle.report.specs.declared.table.Row.{Row}
-use Rattle.report.specs.Sheet.{heading, statement_numbers, all_line}
+use Rattle.report.specs.Sheet.{heading, all_line}
 use Rattle.report.specs.Text.{line}
 
 -- a chain is met among the first k elements: the walk of its statement then holds one. After all elements these are the used chains
@@ -40,15 +39,10 @@ row_line row = line row.chain (statement_numbers (with_total row.held))
 abbrev pub row_lines : List Row → List ℕ
 row_lines rows = flat_map row_line rows
 
--- sums within 10^18
-pub record HeldFits (held : Held) : Type 0 where
-  pub operation_most : held.operation ≤ most_emissions
-  pub provision_most : held.provision ≤ most_emissions
-
--- in every row
+-- what each row holds has sums within 10^18
 abbrev pub RowsFit : List Row → Type 0
 RowsFit rows = All (λ row. HeldFits row.held) rows
 
--- the text of a sheet by its table and the class total
-unfoldable pub table_text : List Row → Held → List ℕ
-table_text rows total = (heading ++ row_lines rows) ++ all_line (with_total total)
+-- the text of a sheet by its table: the rows, and the class total
+unfoldable pub table_text : List Row → StatementReply → List ℕ
+table_text rows total = (heading ++ row_lines rows) ++ all_line total

@@ -3,7 +3,7 @@ use native.Mathlib.Omega.{arith}
 use Rattle.book_words.specs.Book.{elements}
 use Rattle.book.specs.Statements.{of_chain}
 use Rattle.book.specs.Walk.{held_after, with_total}
-use Rattle.book.proofs.StatementWalk.{held_fits, held-statement}
+use Rattle.book.proofs.StatementWalk.{held-fit, held-statement}
 use Rattle.book.proofs.statements.walk.Goals as goal
 
 pub loop-passed-init : goal.loop-passed-init
@@ -11,12 +11,14 @@ unfolding held_after
 loop-passed-init c =
     refl
 
-pub overflow_add-result : goal.overflow_add-result
-overflow_add-result c =
-    omega (arith, held_fits _ _ c.count-count.ensures.book c.loop-passed.passed (omega arith) c.loop-passed.invariant)
+pub with_total-requires : goal.with_total-requires
+with_total-requires c =
+    held-fit _ _ c.count-count.ensures.book c.loop-passed.passed (omega arith) c.loop-passed.invariant
 
 pub returns : goal.returns
 returns c =
     let ws = c.args.book.now in
     let last : c.loop-passed.passed ≡ elements ws = omega arith in
-    ap with_total (c.loop-passed.invariant ∙ ap (held_after ws (of_chain c.args.chain)) last) ∙ held-statement ws c.args.chain
+    c.with_total.ensures
+    ∙ ap with_total (c.loop-passed.invariant ∙ ap (held_after ws (of_chain c.args.chain)) last)
+    ∙ held-statement ws c.args.chain

@@ -1,37 +1,21 @@
 -- `book_shares::closings::lacks_elements` meets its contract: the sums and the pools are those of the definition. Assumes
 -- nothing.
-use mathlib.Core.Path.{◌≡◌, ap}
-use Prim.Native.Nat.{◌+◌}
-use native.Mathlib.Omega.{arith}
-use lib.Dec.{eqb}
+use mathlib.Core.Path.{ap}
 use borrow.Author.Tests.{eq-eqb, ne_eqb}
 use Rattle.book_shares.specs.declared.pools.Pools.{Pools}
-use Rattle.book_shares.specs.Closing.{nothing_to_divide_by}
 use Rattle.book_shares.proofs.CloseAccepted.{nothing-tested, pool-tested}
-use Rattle.book_shares.proofs.MemberSums.{listed-served}
 use Rattle.book_shares.proofs.closings.lacks_elements.Goals as goal
-
-pub overflow_add-activity : goal.overflow_add-activity
-overflow_add-activity c =
-    let served = listed-served c.args.members.book.now c.args.members.category c.args.members.places.now c.args.members.fine c.args.members.are in
-    omega (arith, served, c.activity-activity.ensures, c.mass-mass.ensures)
 
 pub returns-then-activity-mass-eq0 : goal.returns-then-activity-mass-eq0
 returns-then-activity-mass-eq0 c =
-    let tested : nothing_to_divide_by c.args.members.book.now c.args.members.category
-    ≡ eqb (c.activity-activity.result + c.mass-mass.result) 0 = nothing-tested c.args.members.book.now c.args.members.category c.args.members.places.now c.args.members.are _ _ c.activity-activity.ensures
-    c.mass-mass.ensures in
-    rw (tested, eq-eqb _ 0 c.if-activity-mass-eq0.true)
+    rw (nothing-tested c.args.members.book.now c.args.members.category c.args.members.places.now c.args.members.are _ _ c.activity-activity.ensures c.mass-mass.ensures, eq-eqb _ 0 c.if-activity-mass-eq0.true)
 
 pub returns : goal.returns
 returns c =
-    let tested : nothing_to_divide_by c.args.members.book.now c.args.members.category
-    ≡ eqb (c.activity-activity.result + c.mass-mass.result) 0 = nothing-tested c.args.members.book.now c.args.members.category c.args.members.places.now c.args.members.are _ _ c.activity-activity.ensures
-    c.mass-mass.ensures in
     let by-operation = c.pools_of-operation.ensures in
     let by-provision = c.pools_of-provision.ensures in
     rw (
-      tested,
+      nothing-tested c.args.members.book.now c.args.members.category c.args.members.places.now c.args.members.are _ _ c.activity-activity.ensures c.mass-mass.ensures,
       ne_eqb _ 0 c.if-activity-mass-eq0.false,
       pool-tested c.args.members.book.now c.args.members.category c.args.members.places.now c.args.members.are 1 _ _ _
           (ap (λ (q : Pools). q.chilled) by-operation) (ap (λ (q : Pools). q.chilled) by-provision) c.is_without_elements.ensures,

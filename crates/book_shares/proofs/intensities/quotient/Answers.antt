@@ -3,12 +3,8 @@ use Prim.Native.Nat.{ℕ, ◌*◌, ◌^◌}
 use native.Mathlib.Omega.{arith}
 use Rattle.apportion.specs.Fractions.{nearest}
 use Rattle.book_words.specs.Inner.Steps.{capped}
-use Rattle.book_shares.proofs.Quotients.{shifting-start, shifting-next, shifting-done}
+use Rattle.book_shares.proofs.Quotients.{shifting-next, shifting-done}
 use Rattle.book_shares.proofs.intensities.quotient.Goals as goal
-
-pub loop-init : goal.loop-init
-loop-init c =
-    shifting-start c.requires.0 c.capped-whole.ensures
 
 pub loop-preserved : goal.loop-preserved
 loop-preserved c =

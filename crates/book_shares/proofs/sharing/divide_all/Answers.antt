@@ -7,7 +7,7 @@ use native.Mathlib.Omega.{arith}
 use Rattle.apportion.specs.Places.{at}
 use Rattle.apportion.proofs.Refusals.{none-refused}
 use Rattle.book_shares.proofs.PartsAdded.{all-accepted, all-divided, all-freight, all-passengers}
-use Rattle.book_shares.proofs.MemberSums.{listed-served}
+use Rattle.book_shares.proofs.MemberSums.{listed_served}
 use Rattle.book_shares.proofs.sharing.divide_all.Goals as goal
 
 pub returns-then-mass-eq0 : goal.returns-then-mass-eq0
@@ -20,7 +20,7 @@ returns-then-activity-eq0 c =
 
 pub unwrap-requires : goal.unwrap-requires
 unwrap-requires c =
-    let most = listed-served c.args.members.book.now c.args.members.category c.args.members.places.now c.args.members.fine c.args.members.are in
+    let most = listed_served c.args.members.book.now c.args.members.category c.args.members.places.now c.args.members.fine c.args.members.are in
     none-refused c.divide.result
     (c.divide.ensures.value
     ∙ all-accepted c.args.all _ _ (0 ∷ 0 ∷ []) c.activity-activity.ensures c.mass-mass.ensures refl c.requires.0
@@ -28,7 +28,7 @@ unwrap-requires c =
 
 pub returns : goal.returns
 returns c =
-    let most = listed-served c.args.members.book.now c.args.members.category c.args.members.places.now c.args.members.fine c.args.members.are in
+    let most = listed_served c.args.members.book.now c.args.members.category c.args.members.places.now c.args.members.fine c.args.members.are in
     ap (λ (l : List ℕ). record { freight = at l 0; passengers = at l 1 })
     (all-divided c.args.all _ _ _ _ c.activity-activity.ensures c.mass-mass.ensures refl c.requires.0
     c.requires.1 (omega (arith, most)) c.divide.ensures.shares_after)

@@ -1,10 +1,10 @@
 -- `book_words::measures::activity` meets its contract: capped products are the capped product. Assumes nothing.
-use borrow.Author.Tests.{lt-leb}
+use mathlib.Core.Path.{sym, ◌∙◌}
 use Rattle.book_words.specs.Measures.{activity_of}
 use Rattle.book_words.proofs.CappedSums.{capped-times}
 use Rattle.book_words.proofs.measures.activity.Goals as goal
 
-pub returns-then-code-gt2 : goal.returns-then-code-gt2
+pub returns-then-not-is_freight : goal.returns-then-not-is_freight
 unfolding activity_of
-returns-then-code-gt2 c =
-    rw (lt-leb _ _ c.if-code-gt2.true, c.multiply-then-code-gt2.ensures, c.multiply.ensures, capped-times)
+returns-then-not-is_freight c =
+    rw (sym c.is_freight.ensures ∙ c.if-not-is_freight.true, c.multiply-then-not-is_freight.ensures, c.multiply.ensures, capped-times)

@@ -26,32 +26,32 @@ loop-place-init c = remembered-start _
 
 pub offset_bounds-seen-r : goal.offset_bounds-seen-r
 offset_bounds-seen-r c =
-    omega (arith, category_most c.args.book.now c.loop-place.place c.requires.counts_within c.requires.book_value (omega arith) c.read-r.ensures)
+    omega (arith, category_most c.args.words.now c.loop-place.place c.record_at-r.ensures.book c.requires (omega arith) c.record_at-r.ensures.value)
 
 pub bounds-seen-r : goal.bounds-seen-r
 bounds-seen-r c =
-    omega (arith, category_most c.args.book.now c.loop-place.place c.requires.counts_within c.requires.book_value (omega arith) c.read-r.ensures)
+    omega (arith, category_most c.args.words.now c.loop-place.place c.record_at-r.ensures.book c.requires (omega arith) c.record_at-r.ensures.value)
 
 pub returns-then-eq : goal.returns-then-eq
 returns-then-eq c =
-    let within = category_most c.args.book.now c.loop-place.place c.requires.counts_within c.requires.book_value (omega arith) c.read-r.ensures in
-    remembered-mixed _ c.loop-place.invariant c.read-r.ensures (sym c.is_passenger.ensures ∙ c.if-is_passenger.true) within
-    c.is_weighed-weighed.ensures (omega arith) (sym c.eq.ensures ∙ c.if-eq.true)
+    let within = category_most c.args.words.now c.loop-place.place c.record_at-r.ensures.book c.requires (omega arith) c.record_at-r.ensures.value in
+    remembered-mixed _ c.loop-place.invariant c.record_at-r.ensures.value (sym c.is_passenger.ensures ∙ c.if-is_passenger.true) within
+    c.is_weighed-weighed.ensures (omega arith) (rw c.replace-known.ensures.value at (sym c.eq.ensures ∙ c.if-eq.true))
 
 pub loop-place-preserved : goal.loop-place-preserved
 loop-place-preserved c =
-    let within = category_most c.args.book.now c.loop-place.place c.requires.counts_within c.requires.book_value (omega arith) c.read-r.ensures in
+    let within = category_most c.args.words.now c.loop-place.place c.record_at-r.ensures.book c.requires (omega arith) c.record_at-r.ensures.value in
     elim c.if-is_passenger.branch [
       | then-is_passenger+else-eq w ↦
-          rw w.seen-is
-          (remembered-passenger _ c.loop-place.invariant c.read-r.ensures (sym c.is_passenger.ensures ∙ w.if-is_passenger.true) within
-          w.is_weighed-weighed.ensures (sym w.eq.ensures ∙ w.if-eq.false))
+          rw (w.seen-is, w.replace-known.ensures.after)
+          (remembered-passenger _ c.loop-place.invariant c.record_at-r.ensures.value (sym c.is_passenger.ensures ∙ w.if-is_passenger.true) within
+          w.is_weighed-weighed.ensures (rw w.replace-known.ensures.value at (sym w.eq.ensures ∙ w.if-eq.false)))
       | else-is_passenger w ↦
-          rw w.seen-is (remembered-freight _ c.loop-place.invariant c.read-r.ensures (sym c.is_passenger.ensures ∙ w.if-is_passenger.false))
+          rw w.seen-is (remembered-freight _ c.loop-place.invariant c.record_at-r.ensures.value (sym c.is_passenger.ensures ∙ w.if-is_passenger.false))
     ]
 
 pub returns : goal.returns
 unfolding passengers_fine
 returns c =
-    let end : c.loop-place.place ≡ elements c.args.book.now = omega arith in
+    let end : c.loop-place.place ≡ elements c.args.words.now = omega arith in
     sym (rw end at c.loop-place.invariant.unmixed)

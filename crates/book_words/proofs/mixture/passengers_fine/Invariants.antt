@@ -4,4 +4,4 @@ use Rattle.book_words.proofs.PassengerWalk.{Remembered}
 use Rattle.book_words.proofs.mixture.passengers_fine.Given as goal
 
 abbrev pub invariant-loop-place : goal.invariant-loop-place
-invariant-loop-place l = Remembered l.book l.place l.seen
+invariant-loop-place l = Remembered l.words l.place l.seen

@@ -8,7 +8,7 @@ use Rattle.book_words.proofs.SoundTests.{turn_fine}
 use Rattle.book_words.proofs.soundness.is_sound.Given as goal
 
 abbrev pub invariant-loop-place : goal.invariant-loop-place
-invariant-loop-place l = (l.good ≡ true) × (all_below l.place (record_fine l.book l.list) ≡ true)
+invariant-loop-place l = (l.good ≡ true) × (all_below l.place (record_fine l.words l.list) ≡ true)
 
 abbrev pub invariant-lists : goal.invariant-lists
-invariant-lists l = (l.good ≡ true) × (all_below l.list-index (turn_fine l.book) ≡ true)
+invariant-lists l = (l.good ≡ true) × (all_below l.list-index (turn_fine l.words) ≡ true)

@@ -1,5 +1,5 @@
 -- `book_words::totals::capped_standard_activity` meets its contract: the activity, or heads by the standard mass, capped. Assumes nothing.
-use borrow.Author.Tests.{lt-leb}
+use mathlib.Core.Path.{sym, ◌∙◌}
 use Rattle.book_words.specs.Measures.{standard_activity}
 use Rattle.book_words.proofs.CappedSums.{capped-times}
 use Rattle.book_words.proofs.totals.capped_standard_activity.Goals as goal
@@ -7,4 +7,4 @@ use Rattle.book_words.proofs.totals.capped_standard_activity.Goals as goal
 pub returns : goal.returns
 unfolding standard_activity
 returns c =
-    rw (lt-leb _ _ c.if-e-le2.false, c.multiply-2.ensures, c.multiply.ensures, capped-times)
+    rw (sym c.is_freight.ensures ∙ c.if-is_freight.false, c.multiply-2.ensures, c.multiply.ensures, capped-times)

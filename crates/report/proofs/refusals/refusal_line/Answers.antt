@@ -1,25 +1,8 @@
--- `report::refusals::refusal_line` meets its contract. Assumes nothing.
-use Rattle.report.specs.Inner.Steps.{refused_room}
+-- `report::refusals::refusal_line` meets its contract: the line has room. Assumes nothing.
+use Rattle.report.specs.Sheet.{refused_word, refused_text}
 use Rattle.report.proofs.Lines.{refused-fits}
-use Rattle.report.proofs.Stores.{in-room}
 use Rattle.report.proofs.refusals.refusal_line.Goals as goal
 
-pub slice_bounds-room-end : goal.slice_bounds-room-end
-slice_bounds-room-end c =
-    (in-room refused_room c.write_refused-count.ensures.out_after c.write_refused-count.ensures.value (refused-fits _ _ _)).inside
-
-pub slice_bounds-print_text-end : goal.slice_bounds-print_text-end
-slice_bounds-print_text-end c =
-    (in-room refused_room c.write_refused-count.ensures.out_after c.write_refused-count.ensures.value (refused-fits _ _ _)).counted
-
-pub returns-clause-value : goal.returns-clause-value
-returns-clause-value c =
-    rw (← (in-room refused_room c.write_refused-count.ensures.out_after c.write_refused-count.ensures.value (refused-fits _ _ _)).is_text) c.print_text.ensures.value
-
-pub returns-clause-result_value : goal.returns-clause-result_value
-returns-clause-result_value c =
-    rw (← (in-room refused_room c.write_refused-count.ensures.out_after c.write_refused-count.ensures.value (refused-fits _ _ _)).is_text) c.print_text.ensures.result_value
-
-pub returns-clause-out_after : goal.returns-clause-out_after
-returns-clause-out_after c =
-    rw (← (in-room refused_room c.write_refused-count.ensures.out_after c.write_refused-count.ensures.value (refused-fits _ _ _)).is_text) c.print_text.ensures.out_after
+pub put_word_line-count-requires : goal.put_word_line-count-requires
+unfolding refused_text refused_word
+put_word_line-count-requires c = refused-fits _ _ _

@@ -8,7 +8,7 @@ use Rattle.std.specs.List.{insert}
 use Rattle.std.proofs.Common.{rules}
 use Rattle.std.proofs.lemmas.List.Sorted.{answers_always}
 use Rattle.report.specs.declared.table.Row.{Row}
-use Rattle.report.proofs.TableRows.{none, found-held, found-next, absent-held, absent-next, rows-most}
+use Rattle.report.proofs.TableRows.{none, found-held, found-next, absent-held, absent-next}
 use Rattle.report.proofs.table.add_next.Goals as goal
 
 pub walk_on-requires-clause-held_value : goal.walk_on-requires-clause-held_value
@@ -23,19 +23,7 @@ walk_on-held-requires-clause-held_value g c =
     c.in-Err.ensures.bound (c.in-Err.ensures.position (λ row. row.chain) (answers_always _ _ _ (λ f a r g called. search rules)))
 
 pub insert-requires : goal.insert-requires
-insert-requires g c = (
-  search rules,
-  (
-    omega (arith, c.in-Err.ensures.bound, ap length c.deref.ensures.0),
-    omega (
-      arith,
-      ap length c.requires.table,
-      rows-most c.args.book.now c.record_at-chain.ensures.book c.args.passed (omega (arith, c.requires.passed)),
-      c.requires.passed,
-      c.requires.room,
-    ),
-  ),
-)
+insert-requires g c = (search rules, (omega (arith, c.in-Err.ensures.bound, ap length c.deref.ensures.0), c.requires.room))
 
 pub returns-in-Ok : goal.returns-in-Ok
 returns-in-Ok g c =

@@ -1,5 +1,5 @@
--- `report::table::collect` meets its contract: after the first k elements the table is that of k, and the total what the walk over all
--- of them holds. Assumes nothing.
+-- `report::table::collect` meets its contract: after the first k elements the rows are those of k, and the total what the walk over
+-- all of them holds. Assumes nothing.
 use mathlib.Core.Path.{◌≡◌}
 use Rattle.book.specs.Inner.Chains.{of_chains}
 use Rattle.book.specs.Walk.{held_after}

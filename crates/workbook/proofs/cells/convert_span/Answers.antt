@@ -1,5 +1,6 @@
 -- `workbook::cells::convert_span` meets its contract. Assumes nothing.
-use Rattle.workbook.proofs.CellGrounds.{handed-on_as, span-first, span_second, span-exchanged, span-converted}
+use Rattle.apportion.proofs.Refusals.{handed-on_as}
+use Rattle.workbook.proofs.CellGrounds.{span-first, span_second, span-exchanged, span-converted}
 use Rattle.workbook.proofs.cells.convert_span.Goals as goal
 
 pub returns-in_err-low : goal.returns-in_err-low

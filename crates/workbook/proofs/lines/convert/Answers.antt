@@ -1,5 +1,6 @@
 -- `workbook::lines::convert` meets its contract. Assumes nothing.
-use Rattle.workbook.proofs.CellGrounds.{handed-on_as, quantity_refused, operation_refused, provision_refused, line-converted}
+use Rattle.apportion.proofs.Refusals.{handed-on_as}
+use Rattle.workbook.proofs.CellGrounds.{quantity_refused, operation_refused, provision_refused, line-converted}
 use Rattle.workbook.proofs.lines.convert.Goals as goal
 
 pub returns-in_err-quantity : goal.returns-in_err-quantity

@@ -7,7 +7,6 @@ use Rattle.apportion.proofs.floors.PowersOfPool.new.Goals.{else-loop-place-test,
 
 pub invariant_of-result : goal.invariant_of-result
 invariant_of-result c = record {
-  accepted = c.requires.accepted;
   powers = elim c.loop-place-test.branch [
     | else-loop-place-test w ↦
         let end : c.loop-place.place-index ≡ 60 = omega arith in

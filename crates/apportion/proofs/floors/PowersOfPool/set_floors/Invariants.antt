@@ -4,4 +4,4 @@ use Rattle.apportion.proofs.FloorLoop.{Flooring}
 use Rattle.apportion.proofs.floors.PowersOfPool.set_floors.Given as goal
 
 abbrev pub invariant-loop-k : goal.invariant-loop-k
-invariant-loop-k l = Flooring l.self.pool l.weights l.initial.floors l.initial.remainders l.floors l.remainders l.left l.k
+invariant-loop-k l = Flooring l.self.of.pool l.self.of.weights.now l.initial.floors l.initial.remainders l.floors l.remainders l.left l.k

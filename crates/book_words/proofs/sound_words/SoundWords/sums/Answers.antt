@@ -1,12 +1,8 @@
 -- `book_words::sound_words::SoundWords::sums` meets its contract: the sums of a sound book are not capped. Assumes nothing.
 use mathlib.Core.Path.{◌∙◌}
 use Rattle.book_words.proofs.CappedSums.{sums-exact}
-use Rattle.book_words.proofs.SoundTests.{sound-counted, sound-sums}
+use Rattle.book_words.proofs.SoundTests.{sound-sums}
 use Rattle.book_words.proofs.sound_words.SoundWords.sums.Goals as goal
-
-pub capped_sums-requires : goal.capped_sums-requires
-capped_sums-requires c =
-    sound-counted _ c.self.invariant
 
 pub returns : goal.returns
 returns c =
