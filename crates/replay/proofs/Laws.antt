@@ -19,7 +19,7 @@ use Rattle.conservation.proofs.Laws.{conserved as conserves, step-length}
 use Rattle.workbook.specs.declared.cells.Cell.{Cell}
 use Rattle.replay.specs.declared.records.Words.{Words}
 use Rattle.replay.specs.Answers.{call_of, answered}
-use Rattle.replay.specs.Cells.{cell_of, listed_line, cells_after}
+use Rattle.replay.specs.Cells.{cell_of, listed_line, with_cell, cells_after}
 use Rattle.replay.specs.Conserving.{words_in, record_words, is_call, leaves_book, are_of_list, calls_in, Played, StartsList, ReplayConservation}
 use Rattle.replay.specs.Replay.{bad, lent_count, lent_words, with_cells, called, division_done, changed, dumped, preview_done, cell_listed, line_done, performed}
 use Rattle.replay.specs.Replay.{Machine}
@@ -126,9 +126,9 @@ module _ (words : Words) (file : List ℕ) (machine : Machine) where
   unfolding performed cell_listed
   listed-passed is good = rw is (go (ltb 2 words.first || ltb 2 (length machine.cells)) (rw is at good))
     where
-      go : (over : Bool) → (cond over (bad machine) (with_cells (machine.cells ++ (cell_of words ∷ [])) machine)).good ≡ true
-          → Holding (lent_words machine) (machine.cells ++ (cell_of words ∷ []))
-          (cond over (bad machine) (with_cells (machine.cells ++ (cell_of words ∷ [])) machine))
+      go : (over : Bool) → (cond over (bad machine) (with_cells (with_cell (cell_of words) machine.cells) machine)).good ≡ true
+          → Holding (lent_words machine) (with_cell (cell_of words) machine.cells)
+          (cond over (bad machine) (with_cells (with_cell (cell_of words) machine.cells) machine))
       go true good = absurd (true≢false (sym good))
       go false good = (refl, refl)
 

@@ -14,7 +14,7 @@ use Rattle.replay.specs.declared.operations.Operation.TheVariants.{Fresh, Make, 
 use Rattle.replay.specs.declared.records.BadRecord.{BadRecord}
 use Rattle.replay.specs.declared.records.Words.{Words}
 use Rattle.replay.specs.Answers.{answering, statement_reply_numbers, intensity_numbers, file_numbers}
-use Rattle.replay.specs.Cells.{listed_line}
+use Rattle.replay.specs.Cells.{listed_line, with_cell}
 use Rattle.replay.specs.Replay.{Machine, bad, with_cells, lent_words, returned, division_done, listed, poked, lent_anew, dumped, preview_done}
 use Rattle.replay.specs.Stages.{file_room, Stage, on_machine, with_file, operated}
 
@@ -43,7 +43,7 @@ intensity_told category code machine =
 
 -- a cell is listed, where there is room
 abbrev pub cell_put : Cell → Machine → Machine
-cell_put cell machine = cond (ltb 2 (length machine.cells)) (bad machine) (with_cells (machine.cells ++ (cell ∷ [])) machine)
+cell_put cell machine = cond (ltb 2 (length machine.cells)) (bad machine) (with_cells (with_cell cell machine.cells) machine)
 
 -- a line of the listed cells, where they are three, is posted, and the list is emptied
 abbrev pub line_made : ℕ → ℕ → Machine → Machine
