@@ -8,7 +8,7 @@ use crate::pools::WeighedPool;
 
 // A number by its quotient and its remainder.
 #[derive(Clone, Copy, Default)]
-struct Division {
+pub struct Division {
     pub quotient: u64,
     pub remainder: u64,
 }
@@ -37,19 +37,20 @@ impl Division {
 }
 
 // A pool, with pool × 2 ^ bit by the total for each bit that a weight within the total can have.
+// The table is lent: as a field by value it is copied, and the archive for C then asks for memcpy.
 #[derive(Drop)]
 pub struct PowersOfPool<'a> {
     of: WeighedPool<'a>,
-    by_bit: [Division; 60],
-    ghost powers: { Powers of.pool of.total by_bit },
+    by_bit: &'a [Division; 60],
+    ghost powers: { Powers of.pool of.total by_bit.now },
 }
 
 impl<'a> PowersOfPool<'a> {
-    pub fn new(of: WeighedPool<'a>) -> PowersOfPool<'a>
+    // Makes the powers in the array that is lent.
+    pub fn new(of: WeighedPool<'a>, by_bit: &'a mut [Division; 60]) -> PowersOfPool<'a>
         ensures { result.of ≡ of.entry }
     {
         let WeighedPool { pool, total, .. } = of;
-        let mut by_bit = [Division::default(); 60];
         let mut power = Division {
             quotient: pool / total,
             remainder: pool % total,

@@ -62,13 +62,17 @@ fn check_grounds(pool: u64, places: usize, slots: usize, total: u64) -> Result<(
     ])
 }
 
-// The sum of the weights where that is at most 10^18, and 10^18 + 1 where it is more: capped once at the end, where `book_words` caps each
-// sum.
+// The sum of the weights where that is at most 10^18, and 10^18 + 1 where it is more: the walk ends there, since the weights of a caller
+// may be many.
 fn capped_total(weights: &[u64]) -> u64
     ensures { result ≡ min (sum_of weights.now) (suc most_total) }
 {
-    weights
-        .iter()
-        .fold(0u64, |sum, &weight| sum.saturating_add(weight))
-        .min(MOST_TOTAL + 1)
+    let mut sum = 0;
+    for &weight in weights {
+        if weight > MOST_TOTAL - sum {
+            return MOST_TOTAL + 1;
+        }
+        sum += weight;
+    }
+    sum
 }

@@ -1,15 +1,16 @@
 -- The amounts of a quote. Assumes nothing.
-use mathlib.Core.Bool.{true, ◌&&◌}
+use mathlib.Core.Bool.{Bool, cond, true, false, ◌&&◌}
 use mathlib.Core.Path.{ap, ◌≡◌, ◌∙◌, sym}
-use Prim.Native.Nat.{ℕ, ◌*◌, ◌/◌, ◌+◌, ◌%◌}
+use Prim.Native.Nat.{ℕ, ◌*◌, ◌/◌, ◌+◌, ◌%◌, ◌≤◌}
 use native.Mathlib.Nat.{div-add-mod'}
 use native.Mathlib.Omega.{arith}
+use lib.Dec.{eqb}
 use Rattle.std.proofs.lemmas.Bool.{and_parts}
 use Rattle.apportion.specs.Fractions.{nearest, added_by_rounding}
 use Rattle.book_words.specs.Inner.Steps.{capped}
 use Rattle.book_words.specs.Measures.{is_mass, is_distance, is_intensity}
 use Rattle.book.specs.declared.arguments.QuoteArguments.{QuoteArguments}
-use Rattle.book.specs.Calls.{quote_in_range}
+use Rattle.book.specs.Calls.{adjusted, quote_in_range}
 use Rattle.book_words.proofs.CappedSums.{capped-add, capped-rounded}
 
 -- a product by the thousands of its second factor and what is left of it
@@ -27,6 +28,14 @@ amount-rounded i a w q u e =
     e
     ∙ rw (u, q, w, capped-add (i * (a / 1000)) (i * (a % 1000) / 1000))
     (capped-rounded exact (i * (a % 1000) % 1000) 1000 (omega arith) ∙ ap (λ (n : ℕ). capped (nearest n 1000)) (thousands-apart i a))
+
+-- the distance that a quote is of, adjusted or not, is within the largest one and 95 km
+pub adjusted-most : (q : QuoteArguments) → q.distance ≤ 40_000_000 → adjusted q ≤ 40_095_000
+adjusted-most q h = go (eqb q.adjust 1)
+  where
+    go : (t : Bool) → cond t (q.distance + 95_000) q.distance ≤ 40_095_000
+    go true = omega arith
+    go false = omega arith
 
 -- the measures of a quote, each in its range
 pub record Measures (q : QuoteArguments) : Type 0 where

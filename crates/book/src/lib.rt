@@ -20,13 +20,13 @@ mod walks;
 
 pub use apportion::Refusal;
 pub use arguments::{EnrolArguments, LineArguments, PostArguments, QuoteArguments};
-pub use book_shares::Intensity;
+pub use book_shares::{Intensity, close_sound};
 pub use clearing::fresh;
 pub use closing::close;
 pub use enrolling::enrol;
 pub use intensities::intensity;
 pub use lines::post_line;
-pub use opening::open;
+pub use opening::{open, open_sound};
 pub use posting::post;
 pub use previews::preview;
 pub use quoting::quote;

@@ -20,8 +20,8 @@ pub fn open(book: &mut [u64], kind: u64) -> Result<u64, Refusal>
     open_sound(book, kind)
 }
 
-// The same on a book that is known to be sound: an opening needs no sums, so it is made on the words.
-fn open_sound(book: &mut [u64], kind: u64) -> Result<u64, Refusal>
+// The same on a book that is known to be sound: an opening needs no sums, so it is made on the words, and a caller who has none can make it.
+pub fn open_sound(book: &mut [u64], kind: u64) -> Result<u64, Refusal>
     requires { sound book.old ≡ true }
     ensures value { reply_in result ≡ open_reply book.old kind }
     ensures book_after { book.new ≡ open_book book.old kind }

@@ -1,18 +1,14 @@
 -- The pairs of a book: shares that are written in the book are written in its pairs, and the pairs of a closed book. Assumes nothing.
-use mathlib.Core.Bool.{true, and-false}
+use mathlib.Core.Bool.{true}
 use mathlib.Core.List.{List, ◌++◌}
-use mathlib.Core.Logic.{⊎_elim}
 use mathlib.Core.Path.{◌≡◌, refl, sym, ap, ◌∙◌}
 use Prim.Native.Nat.{ℕ, zero, suc, ◌+◌, ◌*◌, ◌-◌, ◌≤◌, ◌<◌}
 use native.Mathlib.Omega.{arith}
 use lib.ListN.{length}
 use lib.Seq.{get_or-set_other}
-use borrow.Author.Tests.{lt-ltb, le-ltb, lt-leb, le-leb}
-use Rattle.std.proofs.lemmas.Bool.{cases_lt}
+use borrow.Author.Tests.{lt-ltb}
 use Rattle.apportion.specs.Places.{at}
 use Rattle.book_words.specs.Book.{book_length, element_list, elements, element_at, element_start, most_elements, most_categories, category_start, closed_word, close_category, put_shares}
-use Rattle.book_words.specs.Inner.Steps.{numbered}
-use Rattle.std.specs.Option.{MatchOption}
 use Rattle.book_words.specs.Totals.{share_of}
 use Rattle.book_words.specs.declared.totals.Side.{Side}
 use Rattle.book_words.specs.declared.totals.Side.TheVariants.{Operation as operation, Provision as provision}
@@ -89,18 +85,3 @@ pairs-closed ws category most =
     (λ p h s.
     held_same after ws p (word element_list.counter (λ z. omega arith))
     (element-same ws after p (λ f t. word (element_start p + f) (λ z. omega arith))) s)
-
--- what the loop writes at a place: zeros past the last element
-pub held-read : (ws : List ℕ) (p : ℕ) {pair : ℕ × ℕ}
-    → MatchOption (numbered (elements ws) (element_at ws) (p + 1)) (pair ≡ (0, 0)) (λ e. pair ≡ (e.operation, e.provision))
-    → (pair.0 ≡ held_by ws p operation) × (pair.1 ≡ held_by ws p provision)
-held-read ws p {pair = pair} =
-    ⊎_elim
-    (λ (here : p < elements ws).
-    let back : p + 1 - 1 ≡ p = omega arith in
-    rw (lt-ltb p (elements ws) here, le-leb 1 (p + 1) (omega arith), le-leb (p + 1) (elements ws) (omega arith), back) apart)
-    (λ (past : elements ws ≤ p). rw (lt-leb (p + 1) (elements ws) (omega arith), and-false, le-ltb p (elements ws) past) apart)
-    (cases_lt p (elements ws))
-  where
-    apart : {a b : ℕ} → pair ≡ (a, b) → (pair.0 ≡ a) × (pair.1 ≡ b)
-    apart e = (ap (λ (q : ℕ × ℕ). q.0) e, ap (λ (q : ℕ × ℕ). q.1) e)

@@ -1,14 +1,20 @@
--- The words of pairs: a loop that writes them, and shares written over them. Assumes nothing.
+-- The words of pairs: pairs that a loop writes, and shares written over them. Assumes nothing.
+use mathlib.Core.Bool.{cond}
 use mathlib.Core.List.{List, [], ◌∷◌, ◌++◌, append_assoc}
 use mathlib.Core.Logic.{⊎_elim}
 use mathlib.Core.Path.{◌≡◌, refl, sym, ap, ◌∙◌}
 use Prim.Native.Nat.{ℕ, zero, suc, ◌+◌, ◌*◌, ◌≤◌, ◌<◌}
 use native.Mathlib.Nat.{eq-or-lt_of_le}
-use native.Mathlib.Numerals.{add-one}
 use native.Mathlib.Omega.{arith}
-use lib.ListN.{length, set, drop, length-append}
-use lib.Seq.{drop-cons, get_or_at, set_at}
+use lib.Dec.{ltb}
+use lib.ListN.{length, set, length-append, replicate}
+use lib.Seq.{get_or_at, set_at}
+use borrow.Author.Tests.{lt-ltb, le-ltb}
+use Rattle.std.proofs.lemmas.Bool.{cases_lt}
+use Rattle.std.proofs.lemmas.List.{replicate-append-replicate}
 use Rattle.apportion.specs.Places.{at}
+use Rattle.book_words.specs.Book.{element_at}
+use Rattle.book_words.specs.Totals.{share_of}
 use Rattle.book_words.specs.declared.totals.Side.{Side}
 use Rattle.book_words.specs.declared.totals.Side.TheVariants.{Operation as operation, Provision as provision}
 use Rattle.book_shares.specs.Inner.Steps.{put_two}
@@ -72,23 +78,30 @@ pair_put (suc n) p f g rest h same =
     ∙ rw (same n (λ z. omega arith) operation, same n (λ z. omega arith) provision))
     (eq-or-lt_of_le h))
 
--- The loop that writes them from the front: the first k pairs are written.
-pub record PairsWriting (pair : ℕ → Side → ℕ) (old : List ℕ) (k : ℕ) (new : List ℕ) : Type 0 where
-  pub inside : 2 * k ≤ length old
-  pub so_far : new ≡ pairs_below k pair ++ drop (2 * k) old
+-- pairs of zeros
+pub pairs-zeros : (n : ℕ) → pairs_below n (λ p s. 0) ≡ replicate (2 * n) 0
+pairs-zeros zero = refl
+pairs-zeros (suc n) =
+    let more : 2 * n + 2 ≡ 2 * suc n = omega arith in
+    ap (λ (l : List ℕ). l ++ (0 ∷ 0 ∷ [])) (pairs-zeros n) ∙ replicate-append-replicate (2 * n) 2 0 ∙ ap (λ (k : ℕ). replicate k 0) more
 
-module _ {pair : ℕ → Side → ℕ} {old new : List ℕ} {k : ℕ} (w : PairsWriting pair old k new) where
-  pub writing-next : (next : List ℕ) (a b : ℕ) → 2 * k + 1 < length old → a ≡ pair k operation → b ≡ pair k provision → next ≡ put_two new (2 * k) a b
-      → PairsWriting pair old (k + 1) next
-  writing-next next a b room is-a is_b e =
-      let behind : drop (2 * k) old ≡ at old (2 * k) ∷ at old (suc (2 * k)) ∷ drop (suc (suc (2 * k))) old =
-      drop-cons old (2 * k) 0 (omega arith) ∙ ap (λ (l : List ℕ). at old (2 * k) ∷ l) (drop-cons old (suc (2 * k)) 0 (omega arith)) in
-      let past : suc (suc (2 * k)) ≡ 2 * suc k = omega arith in
-      record {
-        inside = omega arith;
-        so_far =
-            e
-            ∙ ap (λ (l : List ℕ). put_two l (2 * k) a b) (w.so_far ∙ ap (λ (l : List ℕ). pairs_below k pair ++ l) behind)
-            ∙ two-behind (pairs_below k pair) (drop (suc (suc (2 * k))) old) (at old (2 * k)) (at old (suc (2 * k))) a b (2 * k) (pairs-length k pair)
-            ∙ rw (is-a, is_b, add-one, past) (sym (last-pair k pair (drop (2 * suc k) old)));
-      }
+-- what the elements at the first k places hold, and 0 behind them
+abbrev pub held_before : List ℕ → ℕ → ℕ → Side → ℕ
+held_before ws k p s = cond (ltb p k) (share_of s (element_at ws p)) 0
+
+-- one more of them is written
+pub held_more : (ws : List ℕ) (n k : ℕ) (rest : List ℕ) → k < n
+    → put_two (pairs_below n (held_before ws k) ++ rest) (2 * k) (share_of operation (element_at ws k)) (share_of provision (element_at ws k))
+    ≡ pairs_below n (held_before ws (k + 1)) ++ rest
+held_more ws n k rest h =
+    let here : (s : Side) → held_before ws (k + 1) k s ≡ share_of s (element_at ws k) = λ s. rw (lt-ltb k (k + 1) (omega arith)) in
+    let other_kept : (q : ℕ) → (q ≡ k → ⊥) → (s : Side) → held_before ws k q s ≡ held_before ws (k + 1) q s =
+    λ q other s.
+    ⊎_elim
+    (λ (l : q < k). rw (lt-ltb q k l, lt-ltb q (k + 1) (omega arith)))
+    (λ (g : k ≤ q). ⊎_elim
+    (λ (e : k ≡ q). absurd (other (sym e)))
+    (λ (m : k < q). rw (le-ltb q k g, le-ltb q (k + 1) (omega arith)))
+    (eq-or-lt_of_le g))
+    (cases_lt q k) in
+    rw (sym (here operation), sym (here provision)) (pair_put n k (held_before ws k) (held_before ws (k + 1)) rest h other_kept)

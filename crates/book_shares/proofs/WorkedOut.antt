@@ -5,13 +5,14 @@ use mathlib.Core.Path.{◌≡◌, refl, sym, ap, ◌∙◌}
 use Prim.Native.Nat.{ℕ, ◌+◌, ◌*◌, ◌≤◌, ◌<◌}
 use native.Mathlib.Nat.{le_refl}
 use native.Mathlib.Omega.{arith}
-use lib.ListN.{length, drop}
+use lib.ListN.{length, drop, replicate}
 use borrow.Author.Tests.{lt-ltb}
 use Rattle.apportion.specs.Places.{at}
 use Rattle.book_words.specs.Book.{categories, element_list, elements, close_category}
 use Rattle.book_words.specs.Inner.Steps.{CountsWithin}
 use Rattle.book_words.specs.Soundness.{sound}
 use Rattle.book_words.specs.declared.totals.Side.{Side}
+use Rattle.book_words.specs.declared.totals.Side.TheVariants.{Operation as operation, Provision as provision}
 use Rattle.book_shares.specs.Closing.{close_refusal, close_book, close_with, hand_out}
 use Rattle.book_shares.specs.Inner.Members.{members}
 use Rattle.book_shares.specs.declared.sharing.Shares.{Shares}
@@ -23,8 +24,14 @@ use Rattle.book_words.proofs.Ranges.{between-high}
 use Rattle.book_words.proofs.SoundTests.{sound-counted}
 use Rattle.book_shares.proofs.BookPairs.{pairs-handed, pairs-closed}
 use Rattle.book_shares.proofs.CloseAccepted.{accepted-closing}
+use Rattle.book_shares.proofs.FilledFront.{zeros-at}
 use Rattle.book_shares.proofs.MemberSums.{listed_inside}
 use Rattle.book_shares.proofs.ShareWrites.{first_share, handed_in, sides-written}
+
+-- no share is there yet
+pub nothing-shared : (side : Side) (k : ℕ) → share_at (record { operation = replicate 256 0; provision = replicate 256 0 }) side k ≡ 0
+nothing-shared operation k = zeros-at 256 k
+nothing-shared provision k = zeros-at 256 k
 
 -- the shares are worked out
 module _ (ws : List ℕ) (category : ℕ) (places : List ℕ) (shares : Shares) (fine : sound ws ≡ true) (are : places ≡ members ws category)

@@ -1,17 +1,17 @@
 // Close: the pools of a category are handed out.
-ghost use Rattle.std.specs.Prelude.{Ok, true, ◌||◌, ◌&&◌, ◌≡◌, ltb, eqb};
+ghost use Rattle.std.specs.Prelude.{true, ◌||◌, ◌&&◌, ◌≡◌, ltb, eqb, ℕ, IfErr};
 ghost use Rattle.apportion.specs.Refusals.{refusal_in};
 ghost use Rattle.book_words.specs.Soundness.{sound};
-ghost use Rattle.book_shares.specs.declared.sharing.Shares.{Shares};
+ghost use Rattle.book_words.specs.declared.totals.Side.{Side as BySide};
 ghost use Rattle.book_shares.specs.Closing.{close_refusal, close_book, nothing_to_divide_by, pool_without_elements};
-ghost use Rattle.book_shares.specs.Inner.Steps.{WorkedOut};
+ghost use Rattle.book_shares.specs.Inner.Steps.{WorkedOut, share_at};
 ghost use Rattle.book_shares.specs.Inner.Members.{activity_at, group_number};
 ghost use Rattle.book_shares.specs.Sums.{Group as of_group};
 
 use crate::handing_out::hand_out_to;
 use crate::listing::list_members;
 use crate::pools;
-use crate::sharing::{Shares, shares_of};
+use crate::sharing::{Shares, set_shares};
 use crate::weights::{Group, Members, Recipients};
 use apportion::{Refusal, first_of};
 use book_words::{
@@ -33,24 +33,29 @@ pub fn close_sound(book: &mut [u64], category: u64) -> Result<(), Refusal>
         category,
         places,
     };
-    let shares = work_out(members)?;
+    let mut shares = Shares {
+        operation: [0; 256],
+        provision: [0; 256],
+    };
+    work_out(members, &mut shares)?;
     let first_share = Element::LIST.first + OPERATION_SHARE_WORD;
     hand_out_to(book, first_share, Element::LIST.width, places, &shares);
     set_word::<Category>(book, category, CLOSED_WORD, 1);
     Ok(())
 }
 
-// Works out a closing beside the book: where it is not refused, the shares of the elements that are listed.
-pub fn work_out(members: Members) -> Result<Shares, Refusal>
+// Works out a closing beside the book: where it is not refused, writes the shares of the elements that are listed into shares that are 0.
+pub fn work_out(members: Members, shares: &mut Shares) -> Result<(), Refusal>
+    requires { (side : BySide) (k : ℕ) → share_at shares.old side k ≡ 0 }
     ensures value { refusal_in result ≡ close_refusal members.entry.book.now members.entry.category }
-    ensures shares { (shares : Shares) → result ≡ Ok shares
-        → WorkedOut members.entry.book.now members.entry.category members.entry.places.now shares }
+    ensures worked_out { close_refusal members.entry.book.now members.entry.category ≡ 0
+        → WorkedOut members.entry.book.now members.entry.category members.entry.places.now shares.new }
+    ensures refused { IfErr result (λ refusal. shares.new ≡ shares.old) }
 {
     check_grounds(members)?;
-    Ok(Shares {
-        operation: shares_of(members, Side::Operation),
-        provision: shares_of(members, Side::Provision),
-    })
+    set_shares(members, Side::Operation, &mut shares.operation);
+    set_shares(members, Side::Provision, &mut shares.provision);
+    Ok(())
 }
 
 // The grounds of a closing.

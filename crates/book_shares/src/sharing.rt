@@ -19,7 +19,8 @@ pub struct Parts {
 }
 
 // The shares of elements, in the order that their places are listed in, and zeros past the last. Two arrays: one of pairs is 4,096
-// bytes to set to 0, and with it a full sheet costs 18 % more.
+// bytes to set to 0, and with it a full sheet costs 18 % more. They are lent to what works them out: as an answer, by value, a closing of
+// three elements takes 1.7 times as long.
 #[derive(Clone, Copy)]
 pub struct Shares {
     pub operation: [u64; 256],
@@ -88,25 +89,19 @@ fn add_parts(parts: &[u64], shares: &mut [u64; 256])
     }
 }
 
-// The share of each element of the category, in the order of the places, and zeros past the last. One side is worked out after the other,
-// as the definitions have it.
-pub fn shares_of(members: Members, side: Side) -> [u64; 256]
-    requires { close_refusal members.book.now members.category ≡ 0 }
-    ensures { (k : ℕ) → at result k ≡ listed_share members.entry.book.now members.entry.category members.entry.places.now side k }
+// Writes the share of each element of the category, in the order of the places, into shares that are 0; past the last they stay so. One side
+// is worked out after the other, as the definitions have it.
+pub fn set_shares(members: Members, side: Side, shares: &mut [u64; 256])
+    requires none { close_refusal members.book.now members.category ≡ 0 }
+    requires zeros { (k : ℕ) → at shares.old k ≡ 0 }
+    ensures { (k : ℕ) → at shares.new k ≡ listed_share members.entry.book.now members.entry.category members.entry.places.now side k }
 {
     let pools = pools::pools_of(members.book, members.category, side);
     let parts = divide_all(members, pools.all);
     let chilled = Recipients::Group(Group::Chilled);
     let frozen = Recipients::Group(Group::Frozen);
-    let mut shares = [0u64; 256];
-    add_parts_of(members, Recipients::Freight, parts.freight, &mut shares);
-    add_parts_of(
-        members,
-        Recipients::Passengers,
-        parts.passengers,
-        &mut shares,
-    );
-    add_parts_of(members, chilled, pools.chilled, &mut shares);
-    add_parts_of(members, frozen, pools.frozen, &mut shares);
-    shares
+    add_parts_of(members, Recipients::Freight, parts.freight, shares);
+    add_parts_of(members, Recipients::Passengers, parts.passengers, shares);
+    add_parts_of(members, chilled, pools.chilled, shares);
+    add_parts_of(members, frozen, pools.frozen, shares);
 }

@@ -60,13 +60,13 @@ module _ (ws : List ℕ) where
   pub unmet-nothing : (d k : ℕ) → is_met ws k d ≡ false → held_after ws (of_chain d) k ≡ nothing
   unmet-nothing d k unmet = none-held d k (λ p l on. true≢false (sym (met-since ws p k l) ∙ ap (λ (c : ℕ). is_met ws k c) on ∙ unmet))
 
-  -- the rows of the chains 1 to n are of these
-  rows-within : (k n : ℕ) → All (λ (row : Row). (1 ≤ row.chain) × (row.chain ≤ n)) (rows_to ws k n)
-  rows-within k zero = All-nil (λ (row : Row). (1 ≤ row.chain) × (row.chain ≤ 0))
+  -- the rows of the chains to n are of these
+  rows-within : (k n : ℕ) → All (λ (row : Row). row.chain ≤ n) (rows_to ws k n)
+  rows-within k zero = own-row (λ (row : Row). row.chain ≤ 0) ws k 0 (omega arith)
   rows-within k (suc n) =
-      All-append (λ (row : Row). (1 ≤ row.chain) × (row.chain ≤ suc n)) (rows_to ws k n) (row_of ws k (suc n))
-      (λ p d l. let within = rows-within k n p d l in (within.0, omega (arith, within)))
-      (own-row (λ (row : Row). (1 ≤ row.chain) × (row.chain ≤ suc n)) ws k (suc n) (omega arith, omega arith))
+      All-append (λ (row : Row). row.chain ≤ suc n) (rows_to ws k n) (row_of ws k (suc n))
+      (λ p d l. omega (arith, rows-within k n p d l))
+      (own-row (λ (row : Row). row.chain ≤ suc n) ws k (suc n) (omega arith))
 
 -- one element more
 module _ (ws : List ℕ) (k : ℕ) where
@@ -86,7 +86,7 @@ module _ (ws : List ℕ) (k : ℕ) where
       (lt-ltb 0 ((held_after ws (of_chain (chain_at ws k)) k).elements + 1) (omega arith))
 
   rows-earlier : (n : ℕ) → n < chain_at ws k → rows_to ws (k + 1) n ≡ rows_to ws k n
-  rows-earlier zero h = refl
+  rows-earlier zero h = row_kept 0 (λ e. omega arith)
   rows-earlier (suc n) h = rw (rows-earlier n (omega arith), row_kept (suc n) (λ e. omega arith))
 
   -- the rows of the chains to n, by the element's chain: those of earlier chains, its own, and those of later ones; one element more
@@ -99,15 +99,24 @@ module _ (ws : List ℕ) (k : ℕ) where
     pub now : rows_to ws k n ≡ before ++ (row_of ws k (chain_at ws k) ++ behind)
     pub next : rows_to ws (k + 1) n ≡ before ++ (row_after ws (k + 1) (chain_at ws k) ∷ behind)
 
-  parted : (n : ℕ) → 1 ≤ chain_at ws k → chain_at ws k ≤ n → Parted n
-  parted zero some most = let z : ⊥ = omega arith in absurd z
-  parted (suc n) some most =
+  parted : (n : ℕ) → chain_at ws k ≤ n → Parted n
+  parted zero most =
+      let e : chain_at ws k ≡ 0 = omega arith in
+      record {
+        before = [];
+        behind = [];
+        earlier = All-nil (λ (row : Row). row.chain < chain_at ws k);
+        later = All-nil (λ (row : Row). chain_at ws k < row.chain);
+        now = ap (row_of ws k) (sym e) ∙ sym (append-nil (row_of ws k (chain_at ws k)));
+        next = ap (row_of ws (k + 1)) (sym e) ∙ rw met-own;
+      }
+  parted (suc n) most =
       ⊎_elim
       (λ (e : chain_at ws k ≡ suc n).
       record {
         before = rows_to ws k n;
         behind = [];
-        earlier = λ p d l. omega (arith, (rows-within ws k n p d l).1);
+        earlier = λ p d l. omega (arith, rows-within ws k n p d l);
         later = All-nil (λ (row : Row). chain_at ws k < row.chain);
         now =
             ap (λ (d : ℕ). rows_to ws k n ++ row_of ws k d) (sym e)
@@ -117,7 +126,7 @@ module _ (ws : List ℕ) (k : ℕ) where
             ∙ ap (λ (d : ℕ). rows_to ws k n ++ row_of ws (k + 1) d) (sym e)
             ∙ rw met-own;
       })
-      (λ (l : chain_at ws k < suc n). on (parted n some (omega arith)) l)
+      (λ (l : chain_at ws k < suc n). on (parted n (omega arith)) l)
       (eq-or-lt_of_le most)
     where
       extra : List Row
@@ -280,7 +289,12 @@ module _ (ws : List ℕ) (k : ℕ) (part : Parted ws k most_chains) {rows : List
 
 -- the chain of an element of a sound book is one of those that have rows
 pub parted-sound : (ws : List ℕ) → sound ws ≡ true → (k : ℕ) → k < elements ws → Parted ws k most_chains
-parted-sound ws fine k h = let inside = chain-inside ws fine k h in parted ws k most_chains (omega (arith, inside)) (omega (arith, inside))
+parted-sound ws fine k h = parted ws k most_chains (chain-inside ws fine k h).1
+
+-- and none is on chain 0
+pub zero-unmet : (ws : List ℕ) → sound ws ≡ true → is_met ws (elements ws) 0 ≡ false
+zero-unmet ws fine =
+    ap (λ (held : Held). ltb 0 held.elements) (none-held ws 0 (elements ws) (λ p l on. omega (arith, (chain-inside ws fine p l).0, on)))
 
 -- the next element of a walk over a sound book, read, and the rows before it
 module _ (ws : List ℕ) (k : ℕ) (next : (sound ws ≡ true) × (k < elements ws)) {rows : List Row} (table : rows ≡ rows_after ws k) {e : Element}
@@ -384,52 +398,48 @@ module _ (chain : ℕ) where
   held-before [] others h = ap (λ (rows : List Row). held_for rows chain) (sym (append-nil others)) ∙ held-behind others [] h
   held-before (row ∷ rows) others h = ap (cond (eqb row.chain chain) row.held) (held-before rows others h)
 
--- so after the first k elements the table holds for every chain what the walk of its statement holds: for each of 1 to 10,000, and in a
+-- so after the first k elements the table holds for every chain what the walk of its statement holds: for each up to 10,000, and in a
 -- sound book for any
 module _ (ws : List ℕ) (k : ℕ) (few : k ≤ elements ws) (chain : ℕ) where
-  held-to : (n : ℕ) → 1 ≤ chain → chain ≤ n → held_for (rows_to ws k n) chain ≡ held_after ws (of_chain chain) k
-  held-to zero some most = let z : ⊥ = omega arith in absurd z
-  held-to (suc n) some most =
+  -- its row has what is held for it, where it is met
+  held-own : held_for (row_of ws k chain) chain ≡ held_after ws (of_chain chain) k
+  held-own = go (is_met ws k chain) refl
+    where
+      go : (met : Bool) → is_met ws k chain ≡ met → held_for (cond met (row_after ws k chain ∷ []) []) chain ≡ held_after ws (of_chain chain) k
+      go true met = rw (eq-eqb chain chain refl) refl
+      go false new = sym (unmet-nothing ws chain k new)
+
+  held-to : (n : ℕ) → chain ≤ n → held_for (rows_to ws k n) chain ≡ held_after ws (of_chain chain) k
+  held-to zero most =
+      let e : chain ≡ 0 = omega arith in
+      ap (λ (d : ℕ). held_for (row_of ws k d) chain) (sym e) ∙ held-own
+  held-to (suc n) most =
       ⊎_elim
       (λ (e : chain ≡ suc n).
-      held-behind chain (rows_to ws k n) (row_of ws k (suc n)) (λ p d l same. let z : ⊥ = omega (arith, (rows-within ws k n p d l).1) in absurd z)
+      held-behind chain (rows_to ws k n) (row_of ws k (suc n)) (λ p d l same. let z : ⊥ = omega (arith, rows-within ws k n p d l) in absurd z)
       ∙ ap (λ (d : ℕ). held_for (row_of ws k d) chain) (sym e)
-      ∙ own (is_met ws k chain) refl)
+      ∙ held-own)
       (λ (l : chain < suc n).
       held-before chain (rows_to ws k n) (row_of ws k (suc n))
       (own-row (λ (row : Row). row.chain ≡ chain → ⊥) ws k (suc n) (λ same. let z : ⊥ = omega arith in absurd z))
-      ∙ held-to n some (omega arith))
+      ∙ held-to n (omega arith))
       (eq-or-lt_of_le most)
-    where
-      own : (met : Bool) → is_met ws k chain ≡ met → held_for (cond met (row_after ws k chain ∷ []) []) chain ≡ held_after ws (of_chain chain) k
-      own true met = rw (eq-eqb chain chain refl) refl
-      own false new = sym (unmet-nothing ws chain k new)
 
-  -- a chain that no element can be on has no row
-  held-outside : (n : ℕ) → ((p : ℕ) → p < k → chain_at ws p ≡ chain → ⊥) → (chain < 1) ⊎ (n < chain)
+  -- a chain behind them, that no element can be on, has no row
+  held-outside : (n : ℕ) → ((p : ℕ) → p < k → chain_at ws p ≡ chain → ⊥) → n < chain
       → held_for (rows_to ws k n) chain ≡ held_after ws (of_chain chain) k
-  held-outside n unused outside =
+  held-outside n unused past =
       ap (λ (rows : List Row). held_for rows chain) (sym (append-nil (rows_to ws k n)))
-      ∙ held-behind chain (rows_to ws k n) []
-      (λ p d l same.
-      let within = rows-within ws k n p d l in
-      let z : ⊥ = ⊎_elim (λ (none : chain < 1). omega (arith, within.0, same)) (λ (past : n < chain). omega (arith, within.1, same)) outside in
-      absurd z)
+      ∙ held-behind chain (rows_to ws k n) [] (λ p d l same. let z : ⊥ = omega (arith, rows-within ws k n p d l) in absurd z)
       ∙ sym (none-held ws chain k unused)
 
-  pub table-holds : (sound ws ≡ true) ⊎ ((1 ≤ chain) × (chain ≤ most_chains)) → held_for (rows_after ws k) chain ≡ held_after ws (of_chain chain) k
+  pub table-holds : (sound ws ≡ true) ⊎ (chain ≤ most_chains) → held_for (rows_after ws k) chain ≡ held_after ws (of_chain chain) k
   unfolding rows_after
   table-holds =
       ⊎_elim
       (λ (fine : sound ws ≡ true).
       ⊎_elim
-      (λ (none : chain < 1).
-      held-outside most_chains (λ p l on. omega (arith, (chain-inside ws fine p (omega arith)).0, on)) (inl none))
-      (λ (some : 1 ≤ chain).
-      ⊎_elim
-      (λ (past : most_chains < chain).
-      held-outside most_chains (λ p l on. omega (arith, (chain-inside ws fine p (omega arith)).1, on)) (inr past))
-      (λ (inside : chain ≤ most_chains). held-to most_chains some inside)
+      (λ (past : most_chains < chain). held-outside most_chains (λ p l on. omega (arith, (chain-inside ws fine p (omega arith)).1, on)) past)
+      (λ (inside : chain ≤ most_chains). held-to most_chains inside)
       (cases_lt most_chains chain))
-      (cases_lt chain 1))
-      (λ (inside : (1 ≤ chain) × (chain ≤ most_chains)). held-to most_chains inside.0 inside.1)
+      (λ (inside : chain ≤ most_chains). held-to most_chains inside)

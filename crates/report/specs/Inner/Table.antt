@@ -18,9 +18,9 @@ is_met ws k chain = ltb 0 (held_after ws (of_chain chain) k).elements
 abbrev pub row_after : List ℕ → ℕ → ℕ → Row
 row_after ws k chain = record { chain = chain; held = held_after ws (of_chain chain) k }
 
--- the rows of the chains among 1 to n that are met, ascending
+-- the rows of the chains among 0 to n that are met, ascending; none of a sound book's elements is on chain 0
 abbrev pub rows_to : List ℕ → ℕ → ℕ → List Row
-rows_to ws k zero = []
+rows_to ws k zero = cond (is_met ws k 0) (row_after ws k 0 ∷ []) []
 rows_to ws k (suc n) = rows_to ws k n ++ cond (is_met ws k (suc n)) (row_after ws k (suc n) ∷ []) []
 
 -- the table after the first k elements

@@ -4,6 +4,7 @@ use mathlib.Core.Path.{◌∙◌, ap}
 use lib.ListN.{length}
 use Rattle.report.proofs.Lines.{sheet-fits}
 use Rattle.report.proofs.TableLines.{table-text, table_fits}
+use Rattle.report.proofs.TableRows.{zero-unmet}
 use Rattle.report.proofs.sheets.write_with_table.Goals as goal
 
 pub invariant_of-table : goal.invariant_of-table
@@ -13,10 +14,10 @@ pub put-requires : goal.put-requires
 put-requires g c =
     omega (
       arith,
-      ap length (table-text c.args.book.now (c.deref.ensures.0 ∙ c.collect-total.ensures.table) c.collect-total.ensures.value),
+      ap length (table-text c.args.book.now (zero-unmet c.args.book.now c.collect-total.ensures.book) (c.deref.ensures.0 ∙ c.collect-total.ensures.table) c.collect-total.ensures.value),
       sheet-fits c.args.book.now c.collect-total.ensures.book,
       c.requires.sheet_room_in_bounds,
     )
 
 pub returns : goal.returns
-returns g c = rw (← table-text c.args.book.now (c.deref.ensures.0 ∙ c.collect-total.ensures.table) c.collect-total.ensures.value) c.put.ensures
+returns g c = rw (← table-text c.args.book.now (zero-unmet c.args.book.now c.collect-total.ensures.book) (c.deref.ensures.0 ∙ c.collect-total.ensures.table) c.collect-total.ensures.value) c.put.ensures

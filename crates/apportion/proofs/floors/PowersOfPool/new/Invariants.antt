@@ -4,4 +4,4 @@ use Rattle.apportion.proofs.Powers.{Making}
 use Rattle.apportion.proofs.floors.PowersOfPool.new.Given as goal
 
 abbrev pub invariant-loop-place : goal.invariant-loop-place
-invariant-loop-place l = Making l.pool l.total l.place-items l.power l.step l.place-index
+invariant-loop-place l = Making l.pool l.total l.by_bit l.power l.step l.place-index

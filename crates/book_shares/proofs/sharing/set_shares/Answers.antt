@@ -1,11 +1,11 @@
--- `book_shares::sharing::shares_of` meets its contract: the four amounts can be divided, and their parts are the shares
+-- `book_shares::sharing::set_shares` meets its contract: the four amounts can be divided, and their parts are the shares
 -- of the definition. Assumes nothing.
 use mathlib.Core.List.{List}
 use mathlib.Core.Logic.{⊎_elim}
-use mathlib.Core.Path.{◌≡◌, refl, ap, sym, ◌∙◌}
+use mathlib.Core.Path.{◌≡◌, ap, sym, ◌∙◌}
 use Prim.Native.Nat.{ℕ, ◌*◌, ◌+◌, ◌<◌, ◌≤◌}
 use native.Mathlib.Omega.{arith}
-use lib.ListN.{length, replicate}
+use lib.ListN.{length}
 use borrow.Author.Tests.{lt-ltb, le-ltb}
 use Rattle.std.proofs.lemmas.Bool.{cases_lt}
 use Rattle.apportion.specs.Dividing.{divided, most_pool}
@@ -21,10 +21,9 @@ use Rattle.book_shares.proofs.ClosingShares.{parts_of}
 use Rattle.book_shares.proofs.SumBounds.{pool-limited}
 use Rattle.book_shares.proofs.CloseAccepted.{AcceptedClosing, accepted-closing, divisions, parts-divisible, pools-divisible, served-at}
 use Rattle.book_shares.proofs.PartsAdded.{Held, held_next, added_at, parts-found, part-past, shares-added}
-use Rattle.book_shares.proofs.FilledFront.{zeros-at}
 use Rattle.apportion.proofs.Lists.{list-past}
 use Rattle.book_shares.proofs.MemberSums.{listed_few}
-use Rattle.book_shares.proofs.sharing.shares_of.Goals as goal
+use Rattle.book_shares.proofs.sharing.set_shares.Goals as goal
 use Rattle.book_shares.specs.Sums.{Recipients, Group, Freight, Passengers}
 
 -- a closing for which no ground holds: its amounts can be divided over the places of the category's elements
@@ -48,10 +47,11 @@ module _ (ws : List ℕ) (category : ℕ) (side : Side) (places : List ℕ) (are
     parts_ready = parts-divisible ws category side places are accepted p parts_are
 
     -- how much the shares hold after the first division, the second and the third, where they were zeros before
-    module _ {one : List ℕ} (first : one ≡ with_parts_of ws places Freight p.freight (replicate 256 0)) where
+    module _ (none_yet : List ℕ) (long : length none_yet ≡ 256) (zeros : (k : ℕ) → at none_yet k ≡ 0)
+        {one : List ℕ} (first : one ≡ with_parts_of ws places Freight p.freight none_yet) where
       held_1 : Held 256 most_pool one
       held_1 =
-          let before : Held 256 0 (replicate 256 0) = record { long = refl; few = λ k. omega (arith, zeros-at 256 k) } in
+          let before : Held 256 0 none_yet = record { long = long; few = λ k. omega (arith, zeros k) } in
           held_next before parts_ready.0 first
 
       module _ {two : List ℕ} (second : two ≡ with_parts_of ws places Passengers p.passengers one) where
@@ -72,8 +72,8 @@ module _ (ws : List ℕ) (category : ℕ) (side : Side) (places : List ℕ) (are
             parts_summed k here =
                 omega (
                   arith,
-                  zeros-at 256 k,
-                  added_at (replicate 256 0) (part Freight p.freight) k here first,
+                  zeros k,
+                  added_at none_yet (part Freight p.freight) k (omega (arith, long, here)) first,
                   added_at one (part Passengers p.passengers) k (omega (arith, held_1.long, here)) second,
                   added_at two (part (Group 1) q.chilled) k (omega (arith, held_2.long, here)) third,
                   added_at three (part (Group 2) q.frozen) k (omega (arith, held_3.long, here)) fourth,
@@ -106,43 +106,43 @@ module _ (ws : List ℕ) (category : ℕ) (side : Side) (places : List ℕ) (are
 
 pub divide_all-parts-requires : goal.divide_all-parts-requires
 divide_all-parts-requires c =
-    all_within c.args.members.book.now c.args.members.category c.args.side c.args.members.places.now c.args.members.are c.requires c.pools_of-pools.ensures
+    all_within c.args.members.book.now c.args.members.category c.args.side c.args.members.places.now c.args.members.are c.requires.none c.pools_of-pools.ensures
 
 pub add_parts_of-requires-clause-divisible_over : goal.add_parts_of-requires-clause-divisible_over
 add_parts_of-requires-clause-divisible_over c =
-    (parts_ready c.args.members.book.now c.args.members.category c.args.side c.args.members.places.now c.args.members.are c.requires c.pools_of-pools.ensures c.divide_all-parts.ensures).0
+    (parts_ready c.args.members.book.now c.args.members.category c.args.side c.args.members.places.now c.args.members.are c.requires.none c.pools_of-pools.ensures c.divide_all-parts.ensures).0
 
 pub add_parts_of-requires-clause-by_index : goal.add_parts_of-requires-clause-by_index
-add_parts_of-requires-clause-by_index c = λ k. omega (arith, zeros-at 256 k)
+add_parts_of-requires-clause-by_index c = λ k. omega (arith, c.requires.zeros k)
 
 pub add_parts_of-requires-2-clause-divisible_over : goal.add_parts_of-requires-2-clause-divisible_over
 add_parts_of-requires-2-clause-divisible_over c =
-    (parts_ready c.args.members.book.now c.args.members.category c.args.side c.args.members.places.now c.args.members.are c.requires c.pools_of-pools.ensures c.divide_all-parts.ensures).1
+    (parts_ready c.args.members.book.now c.args.members.category c.args.side c.args.members.places.now c.args.members.are c.requires.none c.pools_of-pools.ensures c.divide_all-parts.ensures).1
 
 pub add_parts_of-requires-2-clause-by_index : goal.add_parts_of-requires-2-clause-by_index
 add_parts_of-requires-2-clause-by_index c =
-    let held = held_1 c.args.members.book.now c.args.members.category c.args.side c.args.members.places.now c.args.members.are c.requires c.pools_of-pools.ensures c.divide_all-parts.ensures c.add_parts_of.ensures in
+    let held = held_1 c.args.members.book.now c.args.members.category c.args.side c.args.members.places.now c.args.members.are c.requires.none c.pools_of-pools.ensures c.divide_all-parts.ensures c.args.shares.now (omega (arith, c.add_parts_of.array_long)) c.requires.zeros c.add_parts_of.ensures in
     λ k. omega (arith, held.few k)
 
 pub add_parts_of-requires-3-clause-divisible_over : goal.add_parts_of-requires-3-clause-divisible_over
 add_parts_of-requires-3-clause-divisible_over c =
-    (pools_ready c.args.members.book.now c.args.members.category c.args.side c.args.members.places.now c.args.members.are c.requires c.pools_of-pools.ensures).0
+    (pools_ready c.args.members.book.now c.args.members.category c.args.side c.args.members.places.now c.args.members.are c.requires.none c.pools_of-pools.ensures).0
 
 pub add_parts_of-requires-3-clause-by_index : goal.add_parts_of-requires-3-clause-by_index
 add_parts_of-requires-3-clause-by_index c =
-    let held = held_2 c.args.members.book.now c.args.members.category c.args.side c.args.members.places.now c.args.members.are c.requires c.pools_of-pools.ensures c.divide_all-parts.ensures c.add_parts_of.ensures c.add_parts_of-2.ensures in
+    let held = held_2 c.args.members.book.now c.args.members.category c.args.side c.args.members.places.now c.args.members.are c.requires.none c.pools_of-pools.ensures c.divide_all-parts.ensures c.args.shares.now (omega (arith, c.add_parts_of.array_long)) c.requires.zeros c.add_parts_of.ensures c.add_parts_of-2.ensures in
     λ k. omega (arith, held.few k)
 
 pub add_parts_of-requires-4-clause-divisible_over : goal.add_parts_of-requires-4-clause-divisible_over
 add_parts_of-requires-4-clause-divisible_over c =
-    (pools_ready c.args.members.book.now c.args.members.category c.args.side c.args.members.places.now c.args.members.are c.requires c.pools_of-pools.ensures).1
+    (pools_ready c.args.members.book.now c.args.members.category c.args.side c.args.members.places.now c.args.members.are c.requires.none c.pools_of-pools.ensures).1
 
 pub add_parts_of-requires-4-clause-by_index : goal.add_parts_of-requires-4-clause-by_index
 add_parts_of-requires-4-clause-by_index c =
-    let held = held_3 c.args.members.book.now c.args.members.category c.args.side c.args.members.places.now c.args.members.are c.requires c.pools_of-pools.ensures c.divide_all-parts.ensures c.add_parts_of.ensures c.add_parts_of-2.ensures c.add_parts_of-3.ensures in
+    let held = held_3 c.args.members.book.now c.args.members.category c.args.side c.args.members.places.now c.args.members.are c.requires.none c.pools_of-pools.ensures c.divide_all-parts.ensures c.args.shares.now (omega (arith, c.add_parts_of.array_long)) c.requires.zeros c.add_parts_of.ensures c.add_parts_of-2.ensures c.add_parts_of-3.ensures in
     λ k. omega (arith, held.few k)
 
 pub returns : goal.returns
 returns c =
-    all_added c.args.members.book.now c.args.members.category c.args.side c.args.members.places.now c.args.members.are c.requires c.pools_of-pools.ensures c.divide_all-parts.ensures
-    c.add_parts_of.ensures c.add_parts_of-2.ensures c.add_parts_of-3.ensures c.add_parts_of-4.ensures
+    all_added c.args.members.book.now c.args.members.category c.args.side c.args.members.places.now c.args.members.are c.requires.none c.pools_of-pools.ensures c.divide_all-parts.ensures
+    c.args.shares.now (omega (arith, c.add_parts_of.array_long)) c.requires.zeros c.add_parts_of.ensures c.add_parts_of-2.ensures c.add_parts_of-3.ensures c.add_parts_of-4.ensures
