@@ -36,37 +36,35 @@ impl Division {
     }
 }
 
-// A pool, with pool × 2 ^ bit by the total for each bit that a weight within the total can have.
-// The table is lent: as a field by value it is copied, and the archive for C then asks for memcpy.
+// Writes pool × 2 ^ bit by the total for each bit that a weight within the total can have.
+pub fn set_powers(of: WeighedPool, by_bit: &mut [Division; 60])
+    ensures { Powers of.entry.pool of.entry.total by_bit.new }
+{
+    let WeighedPool { pool, total, .. } = of;
+    let mut power = Division {
+        quotient: pool / total,
+        remainder: pool % total,
+    };
+    let mut step = 1;
+    for place in by_bit.iter_mut() {
+        if step > total {
+            break;
+        }
+        *place = power;
+        power = power.plus(power, total);
+        step += step;
+    }
+}
+
+// A pool, with its powers. The table is lent: as a field by value it is copied, and the archive for C then asks for memcpy.
 #[derive(Drop)]
 pub struct PowersOfPool<'a> {
-    of: WeighedPool<'a>,
-    by_bit: &'a [Division; 60],
+    pub of: WeighedPool<'a>,
+    pub by_bit: &'a [Division; 60],
     ghost powers: { Powers of.pool of.total by_bit.now },
 }
 
 impl<'a> PowersOfPool<'a> {
-    // Makes the powers in the array that is lent.
-    pub fn new(of: WeighedPool<'a>, by_bit: &'a mut [Division; 60]) -> PowersOfPool<'a>
-        ensures { result.of ≡ of.entry }
-    {
-        let WeighedPool { pool, total, .. } = of;
-        let mut power = Division {
-            quotient: pool / total,
-            remainder: pool % total,
-        };
-        let mut step = 1;
-        for place in by_bit.iter_mut() {
-            if step > total {
-                break;
-            }
-            *place = power;
-            power = power.plus(power, total);
-            step += step;
-        }
-        PowersOfPool { of, by_bit }
-    }
-
     // pool × weight by the total: the sum of the powers of this pool at the weight's bits.
     #[tactic(auto, using(crate::proofs::Powers::bit_small))]
     fn times(&self, weight: u64) -> Division

@@ -5,7 +5,7 @@ ghost use Rattle.apportion.specs.Dividing.{remainder_at, divided};
 ghost use Rattle.apportion.specs.Inner.Products.{Accepted};
 
 use crate::MOST_PLACES;
-use crate::floors::{Division, PowersOfPool};
+use crate::floors::{Division, PowersOfPool, set_powers};
 use crate::units::{add_units, unit_bound};
 
 // A pool above 0, the weights that it goes to, and their sum, where no ground refuses the division.
@@ -36,7 +36,11 @@ impl<'a> WeighedPool<'a> {
         ensures remainders_after { remainders.new ≡ list_below (length self.entry.weights.now) (remainder_at self.entry.pool self.entry.weights.now) }
     {
         let mut by_bit = [Division::default(); 60];
-        let powers = PowersOfPool::new(self, &mut by_bit);
+        set_powers(self, &mut by_bit);
+        let powers = PowersOfPool {
+            of: self,
+            by_bit: &by_bit,
+        };
         let left = powers.set_floors(shares, remainders);
         let least = unit_bound(remainders, self.total, left);
         add_units(remainders, least, left, shares);

@@ -11,27 +11,22 @@ use Rattle.apportion.proofs.AcceptedDivision.{Floored, bound-asked, floors-small
 use Rattle.apportion.proofs.pools.WeighedPool.share_some.Goals as goal
 
 -- what the floors of this pool left
-floored : {of self : WeighedPool} {left : ℕ} {floors remainders : List ℕ} → of ≡ self → left ≡ left_over of.pool of.weights.now
-    → floors ≡ list_below (length of.weights.now) (floor_at of.pool of.weights.now)
-    → remainders ≡ list_below (length of.weights.now) (remainder_at of.pool of.weights.now)
+floored : (self : WeighedPool) {left : ℕ} {floors remainders : List ℕ} → left ≡ left_over self.pool self.weights.now
+    → floors ≡ list_below (length self.weights.now) (floor_at self.pool self.weights.now)
+    → remainders ≡ list_below (length self.weights.now) (remainder_at self.pool self.weights.now)
     → Floored self.pool self.total self.weights.now left floors remainders
-floored {self = self} same left floors remainders =
-    record {
-      accepted = self.accepted;
-      left_is = rw same at left;
-      floors_are = rw same at floors;
-      remainders_are = rw same at remainders;
-    }
+floored self left floors remainders =
+    record { accepted = self.accepted; left_is = left; floors_are = floors; remainders_are = remainders }
 
 pub unit_bound-least-requires : goal.unit_bound-least-requires
 unit_bound-least-requires c =
-    bound-asked (floored c.new-powers.ensures c.set_floors-left.ensures.value c.set_floors-left.ensures.floors_after c.set_floors-left.ensures.remainders_after)
+    bound-asked (floored c.args.self c.set_floors-left.ensures.value c.set_floors-left.ensures.floors_after c.set_floors-left.ensures.remainders_after)
 
 pub add_units-requires-clause-by_index : goal.add_units-requires-clause-by_index
 add_units-requires-clause-by_index c =
-    floors-small (floored c.new-powers.ensures c.set_floors-left.ensures.value c.set_floors-left.ensures.floors_after c.set_floors-left.ensures.remainders_after)
+    floors-small (floored c.args.self c.set_floors-left.ensures.value c.set_floors-left.ensures.floors_after c.set_floors-left.ensures.remainders_after)
 
 pub returns-clause-shares_after : goal.returns-clause-shares_after
 returns-clause-shares_after c =
     c.add_units.ensures
-    ∙ shares_are (floored c.new-powers.ensures c.set_floors-left.ensures.value c.set_floors-left.ensures.floors_after c.set_floors-left.ensures.remainders_after)
+    ∙ shares_are (floored c.args.self c.set_floors-left.ensures.value c.set_floors-left.ensures.floors_after c.set_floors-left.ensures.remainders_after)
